@@ -104,7 +104,7 @@ class Entry:
         self.what, self.said = comments(text)
         self.source = self.said["From"].rstrip(".")
         path = path_of(name)
-        # The highest level that it has: its name, how many questions decide it, and the size of the certificate.
+        # The highest level that it has: its name, and how many questions decide it.
         self.proved = proved(path, "tp2") or proved(path, "tp1", "--tp1")
         status, least = run("least", path)
         self.broken = Counterexample(least) if status == 1 else None
@@ -116,19 +116,31 @@ class Entry:
     def is_slip(self):
         return self.name.startswith("slip-")
 
+    def is_published(self):
+        return re.search(r"\b(19|20)\d\d\b", self.source) is not None
+
     def row(self):
-        level, count, size = self.proved
-        return [self.link(), self.source, level, f"{count:,}", f"{size:,}"]
+        level, count = self.proved
+        return [self.link(), self.source, level, f"{count:,}"]
+
+    def fault(self):
+        """What is wrong with one that is refuted, with its authors where it was published."""
+        authors = f" ({self.source})" if self.is_published() else ""
+        return f"- {self.link()}{authors} lacks {self.broken.level.upper()}: {self.broken.cause}"
 
     def sentence(self):
-        """What is wrong with one that is refuted, with its authors where it was published."""
-        authors = f" ({self.source})" if re.search(r"\b(19|20)\d\d\b", self.source) else ""
-        return f"- {self.link()}{authors} lacks {self.broken.level.upper()}: {self.broken.cause}. {self.what}"
+        return f"{self.fault()}. {self.what}"
+
+    def sentence_with_operations(self):
+        """Besides, at which document and operations, of which site 1 makes the first one and site 2 the second."""
+        ops = self.broken.operations
+        made = " and ".join(f"`{shown(op)}`" for op in ops) + " of one site" * (len({op.site for op in ops}) == 1)
+        return f"{self.fault()}, on `{document_text(self.broken.document)}` by {made}. {self.what}"
 
 
 def proved(path, level, *options):
-    status, certificate = run("prove", *options, path)
-    return (level, questions(path, *options), len(certificate)) if status == 0 else None
+    status, _ = run("prove", *options, path)
+    return (level, questions(path, *options)) if status == 0 else None
 
 
 def audit_word(text):
@@ -216,7 +228,7 @@ def table_of(steps):
     return [f"  {text:{width}}  {document}".rstrip() for text, document in steps]
 
 
-HEADS = ["function", "from", "level", "questions", "bytes"]
+HEADS = ["function", "from", "level", "questions"]
 AUDITS = {"open": "Some operations have no case in", "a case never": "A case is never taken in"}
 
 
@@ -249,15 +261,17 @@ def generated():
     lines += ["", "`otp audit` finds besides:", ""]
     lines += [line for item in audits(entries) for line in wrapped(item)]
     lines += ["", "## What breaks the refuted ones", ""]
-    slips = []
+    others = []
     for shape, broken in broken_alike(entries):
-        if all(map(Entry.is_slip, broken)):
-            slips += broken
+        if not any(map(Entry.is_published, broken)):
+            others += broken
             continue
         lines += [line for entry in broken for line in wrapped(entry.sentence())]
         lines += ["", "```text", shape, "```", ""]
-    lines += ["The other slips, whose documents `otp least` prints:", ""]
-    lines += [line for entry in slips for line in wrapped(entry.sentence())]
+    lines += ["The others, each with the shortest document and the operations there:", ""]
+    lines += [line for entry in others if not entry.is_slip() for line in wrapped(entry.sentence_with_operations())]
+    lines += ["", "The other slips, whose documents `otp least` prints:", ""]
+    lines += [line for entry in others if entry.is_slip() for line in wrapped(entry.sentence())]
     return "\n".join(lines) + "\n"
 
 

@@ -1,6 +1,7 @@
 -- The definitions on a small plan over two names: it asks whether name 0 is at most name 1, holds at
 -- no, and at yes asks whether name 1 is below name 0, which no integers meet after yes.
-use Rattle.std.proofs.Common.{◌≡◌, ℕ, ℤ, pos, negsuc, ◌+ℤ◌, ◌≤ℤ◌, true, false, [], ◌∷◌, refl, Result, Ok, Err, Some, None, lit≤, inl, inr, arith}
+use Rattle.std.proofs.Common.{◌≡◌, ℕ, ℤ, pos, negsuc, ◌+ℤ◌, ◌≤ℤ◌, true, false, [], ◌∷◌, refl, Result, Ok, Err, Some}
+use Rattle.std.proofs.Common.{None, lit≤, inl, inr, arith}
 use Rattle.std.proofs.lemmas.Int.{ints}
 use Rattle.diff_graph.specs.declared.lit.PickError.{PickError}
 use Rattle.diff_graph.specs.declared.lit.PickError.TheVariants.{NotACycle}
@@ -84,12 +85,18 @@ QuestionList-strict =
 -- where name 1 need not be below name 0, yes twice is possible and fails, and the list ends there
 QuestionList-lax :
     QuestionList (two_name_plan false) []
-    (record { asked = [] ∷ (at_most ∷ []) ∷ []; failing = Some (record { answers = at_most ∷ is_under false ∷ []; why = 7 }) })
+    (record {
+      asked = [] ∷ (at_most ∷ []) ∷ [];
+      failing = Some (record { answers = at_most ∷ is_under false ∷ []; why = 7 });
+    })
 QuestionList-lax =
     inr (
       IsPossible-none,
       (
-        record { asked = (at_most ∷ []) ∷ []; failing = Some (record { answers = at_most ∷ is_under false ∷ []; why = 7 }) },
+        record {
+          asked = (at_most ∷ []) ∷ [];
+          failing = Some (record { answers = at_most ∷ is_under false ∷ []; why = 7 });
+        },
         inr (IsPossible-at_most, (failing_at (at_most ∷ is_under false ∷ []) 7, inr (IsPossible-both, refl), refl)),
         refl,
       ),

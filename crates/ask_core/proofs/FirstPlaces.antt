@@ -39,5 +39,6 @@ pub branches_at-same :
 branches_at-same was_own is_own old new [] same own = refl
 branches_at-same was_own is_own old new (p ∷ places) same own =
     let here : new p.node ≡ old p.node = same.plans p.node own.0 in
-    let later : branches_at new places ≡ branches_at old places = branches_at-same was_own is_own old new places same own.1 in
+    let later : branches_at new places ≡ branches_at old places =
+    branches_at-same was_own is_own old new places same own.1 in
     cc

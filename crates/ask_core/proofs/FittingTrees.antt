@@ -46,7 +46,8 @@ HoldsAt-question v l on_yes on_no w at_yes at_no met =
       | inr failed ↦ rw failed (at_no ((AreMet-answered v w l false).1 (met, failed)))
     ]
 
-module _ (never_met : (v : ℕ → ℤ) (w : List Lit) (picks : List ℕ) → pick_verdict w picks ≡ Ok tt → ¬ AreMet v w) {W : Type 0} where
+module _ (never_met : (v : ℕ → ℤ) (w : List Lit) (picks : List ℕ) → pick_verdict w picks ≡ Ok tt
+    → ¬ AreMet v w) {W : Type 0} where
   -- a fitting tree shows, part by part, that its plan holds: a negative cycle among the answers leaves
   -- nothing to hold
   pub fitting_tree_holds :
@@ -65,5 +66,6 @@ module _ (never_met : (v : ℕ → ℤ) (w : List Lit) (picks : List ℕ) → pi
 
   -- tokens that complete one branch are those of a fitting tree
   pub completed_branch_holds :
-      (tokens : List Tok) (b : Branch W) (v : ℕ → ℤ) → AreMet v b.answers → Completes tokens (b ∷ []) → value b.plan v ≡ true
+      (tokens : List Tok) (b : Branch W) (v : ℕ → ℤ) → AreMet v b.answers
+      → Completes tokens (b ∷ []) → value b.plan v ≡ true
   completed_branch_holds tokens b v met (t, rest, fits, same, done) = fitting_tree_holds t b.plan b.answers v met fits

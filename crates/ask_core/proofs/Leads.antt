@@ -1,7 +1,8 @@
 -- What answers that lead to an end that fails are: the plan ends there at each valuation that meets them, and
 -- they are within the limits of the plan's questions.
-use Rattle.std.proofs.Common.{◌≡◌, ℕ, ◌<◌, ◌≤◌, ℤ, pos, negsuc, neg_ℤ, ◌+ℤ◌, ◌-ℤ◌, ◌≤ℤ◌, Bool, true, false, not, ◌&&◌, if◌then◌else◌, nat_eq, nat_lt, int_le}
-use Rattle.std.proofs.Common.{Option, Some, List, [], ◌∷◌, length, refl, ap, sym, ◌∙◌, subst, inl, inr, arith}
+use Rattle.std.proofs.Common.{◌≡◌, ℕ, ◌<◌, ◌≤◌, ℤ, pos, negsuc, neg_ℤ, ◌+ℤ◌, ◌-ℤ◌, ◌≤ℤ◌, Bool, true, false, not, ◌&&◌}
+use Rattle.std.proofs.Common.{if◌then◌else◌, nat_eq, nat_lt, int_le, Option, Some, List, [], ◌∷◌, length, refl, ap, sym}
+use Rattle.std.proofs.Common.{◌∙◌, subst, inl, inr, arith}
 use Rattle.std.proofs.lemmas.Bool.{and_parts}
 use Rattle.std.proofs.lemmas.Bool.Decides.{Decides-ltb}
 use Rattle.std.proofs.lemmas.Int.{ints}
@@ -37,12 +38,15 @@ met_no v l h e =
     omega (arith, ints)
 
 -- the plan ends where the answers lead
-pub end_of_lead : {W : Type 0} (v : ℕ → ℤ) (why : W) (p : Plan W) (w : List Lit) → LeadTo why p w → AreMet v w → end_of p v ≡ Some why
+pub end_of_lead : {W : Type 0} (v : ℕ → ℤ) (why : W) (p : Plan W) (w : List Lit) → LeadTo why p w
+    → AreMet v w → end_of p v ≡ Some why
 end_of_lead v why (Ask l p q) [] lead met = absurd lead
 end_of_lead v why (Ask l p q) (m ∷ w) (inl (same, lead)) met =
-    by_met (is_met v l) (end_of p v) (end_of q v) (met_yes v l (subst (λ n. Meets v n) same met.0)) ∙ end_of_lead v why p w lead met.1
+    by_met (is_met v l) (end_of p v) (end_of q v) (met_yes v l (subst (λ n. Meets v n) same met.0))
+    ∙ end_of_lead v why p w lead met.1
 end_of_lead v why (Ask l p q) (m ∷ w) (inr (same, lead)) met =
-    by_not_met (is_met v l) (end_of p v) (end_of q v) (met_no v l (subst (λ n. Meets v n) same met.0)) ∙ end_of_lead v why q w lead met.1
+    by_not_met (is_met v l) (end_of p v) (end_of q v) (met_no v l (subst (λ n. Meets v n) same met.0))
+    ∙ end_of_lead v why q w lead met.1
 end_of_lead v why Holds w lead met = absurd lead
 end_of_lead v why (Fails cause) [] lead met = ap Some lead
 end_of_lead v why (Fails cause) (m ∷ w) lead met = absurd lead
@@ -64,11 +68,13 @@ pub record IsFineAnswer (count : ℕ) (l : Lit) : Type 0 where
   pub high : l.k ≤ℤ pos 1001
 
 -- a fine literal is a fine answer, as it is asked and negated
-fine_parts : (count : ℕ) (l : Lit) → is_fine_literal count l ≡ true → IsFineAnswer count l × IsFineAnswer count (negated l)
+fine_parts : (count : ℕ) (l : Lit) → is_fine_literal count l ≡ true
+    → IsFineAnswer count l × IsFineAnswer count (negated l)
 fine_parts count l e =
-    let last = and_parts (not (nat_eq l.x l.y) && nat_lt l.x count && nat_lt l.y count && int_le (neg_ℤ MAX_LITERAL_OFFSET) l.k)
-    (int_le l.k MAX_LITERAL_OFFSET) e in
-    let low = and_parts (not (nat_eq l.x l.y) && nat_lt l.x count && nat_lt l.y count) (int_le (neg_ℤ MAX_LITERAL_OFFSET) l.k) last.0 in
+    let last = and_parts (not (nat_eq l.x l.y) && nat_lt l.x count && nat_lt l.y count
+    && int_le (neg_ℤ MAX_LITERAL_OFFSET) l.k) (int_le l.k MAX_LITERAL_OFFSET) e in
+    let low = and_parts (not (nat_eq l.x l.y) && nat_lt l.x count && nat_lt l.y count)
+    (int_le (neg_ℤ MAX_LITERAL_OFFSET) l.k) last.0 in
     let y = and_parts (not (nat_eq l.x l.y) && nat_lt l.x count) (nat_lt l.y count) low.0 in
     let x = and_parts (not (nat_eq l.x l.y)) (nat_lt l.x count) y.0 in
     let x_below : l.x < count = (Decides-ltb l.x count).0 x.1 in

@@ -1,7 +1,8 @@
 -- The places of a path after a question and after a close.
-use Rattle.std.proofs.Common.{◌≡◌, ℕ, ◌+◌, ◌<◌, ◌≤◌, List, [], ◌∷◌, ◌++◌, length, take, drop, set, map, reverse, Option, Some, None, true, false, arith, refl}
-use Rattle.std.proofs.Common.{◌∙◌, ap}
-use Rattle.std.proofs.lemmas.List.{reverse-append, length-append, take-take, take-append-le, take_at, take-set-le, take_more_set, length-set, length-take}
+use Rattle.std.proofs.Common.{◌≡◌, ℕ, ◌+◌, ◌<◌, ◌≤◌, List, [], ◌∷◌, ◌++◌, length, take, drop, set, map, reverse, Option}
+use Rattle.std.proofs.Common.{Some, None, true, false, arith, refl, ◌∙◌, ap}
+use Rattle.std.proofs.lemmas.List.{reverse-append, length-append, take-take, take-append-le, take_at, take-set-le}
+use Rattle.std.proofs.lemmas.List.{take_more_set, length-set, length-take}
 use Rattle.diff_graph.specs.declared.lit.Lit.{Lit}
 use Rattle.diff_graph.specs.Literals.{answered_of}
 use Rattle.ask_core.specs.declared.path.Waiting.{Waiting}
@@ -41,7 +42,8 @@ pub places_of-question :
 places_of-question None on_yes on_no l w waiting opened nested = absurd (omega arith)
 places_of-question (Some n) on_yes on_no l w waiting opened nested =
     rw reverse-push
-    (let here : take (length w) (w ++ answered_of l true ∷ []) ≡ w = take_at w (answered_of l true ∷ []) (length w) refl in
+    (let here : take (length w) (w ++ answered_of l true ∷ []) ≡ w =
+    take_at w (answered_of l true ∷ []) (length w) refl in
     let later =
     waiting_places-same (length w) (w ++ answered_of l true ∷ []) w (reverse waiting)
     (λ k below. take-append-le k w (answered_of l true ∷ []) below) nested in
@@ -50,7 +52,8 @@ places_of-question (Some n) on_yes on_no l w waiting opened nested =
 -- a question whose part for yes is closed puts the part for no first
 pub answered_no :
     {N : Type 0} (current : Option N) (on_yes on_no : N) (l : Lit) (w u : List Lit) (waiting : List (Waiting N))
-    (places : List (OpenPlace N)) → places_of current w waiting ≡ places → 0 < length places → IsNested (length w) (reverse waiting)
+    (places : List (OpenPlace N)) → places_of current w waiting ≡ places → 0 < length places
+    → IsNested (length w) (reverse waiting)
     → u ≡ w ++ answered_of l false ∷ []
     → places_of (Some on_no) u waiting ≡ drop 1 (after_question l on_yes on_no places)
 answered_no None on_yes on_no l w u waiting places shown opened nested longer =
@@ -84,11 +87,13 @@ pub places_of-close :
 places_of-close None w waiting rest x opened same nested = absurd (omega arith)
 places_of-close (Some n) w waiting rest x opened same nested =
     let parts = IsNested-close w waiting rest x same nested in
-    let here : take (x.depth + 1) (set w x.depth x.answer) ≡ take x.depth w ++ x.answer ∷ [] = take_more_set w x.depth x.answer parts.0 in
-    let later : map (waiting_place (take (x.depth + 1) (set w x.depth x.answer))) (reverse rest) ≡ map (waiting_place w) (reverse rest) =
+    let here : take (x.depth + 1) (set w x.depth x.answer) ≡ take x.depth w ++ x.answer ∷ [] =
+    take_more_set w x.depth x.answer parts.0 in
+    let later : map (waiting_place (take (x.depth + 1) (set w x.depth x.answer))) (reverse rest)
+    ≡ map (waiting_place w) (reverse rest) =
     waiting_places-same x.depth (take (x.depth + 1) (set w x.depth x.answer)) w (reverse rest)
-    (λ k below. take-take k (x.depth + 1) (set w x.depth x.answer) (omega arith) ∙ take-set-le k w x.depth x.answer below)
-    parts.1
+    (λ k below. take-take k (x.depth + 1) (set w x.depth x.answer) (omega arith)
+    ∙ take-set-le k w x.depth x.answer below) parts.1
     in
     let shown : reverse waiting ≡ x ∷ reverse rest = rw same (reverse-push rest x) in
     rw (shown, later, here)
@@ -107,7 +112,8 @@ asked_places current on_yes on_no l w u waiting later places shown opened nested
     rw (longer, deeper, ← shown) e
 
 pub closed_places :
-    {N : Type 0} (current : Option N) (w u : List Lit) (waiting rest : List (Waiting N)) (x : Waiting N) (places : List (OpenPlace N))
+    {N : Type 0} (current : Option N) (w u : List Lit) (waiting rest : List (Waiting N)) (x : Waiting N)
+    (places : List (OpenPlace N))
     → places_of current w waiting ≡ places → 0 < length places → waiting ≡ rest ++ x ∷ []
     → IsNested (length w) (reverse waiting) → u ≡ take (x.depth + 1) (set w x.depth x.answer)
     → places_of (Some x.node) u rest ≡ drop 1 places
@@ -120,7 +126,8 @@ closed_places current w u waiting rest x places shown opened same nested shorter
 pub closed_depth :
     {N : Type 0} (w : List Lit) (waiting rest : List (Waiting N)) (x : Waiting N) (count : ℕ) → count ≡ length w
     → waiting ≡ rest ++ x ∷ [] → IsNested (length w) (reverse waiting) → x.depth < count
-closed_depth w waiting rest x count counted same nested = omega (arith, counted, (IsNested-close w waiting rest x same nested).0)
+closed_depth w waiting rest x count counted same nested =
+    omega (arith, counted, (IsNested-close w waiting rest x same nested).0)
 
 -- where none waits, no place is left
 pub closed_last :

@@ -1,7 +1,7 @@
 -- A question list is shorter than 2 to the number of questions on the longest path: by induction on the
 -- plan, since a question has fewer before the answer yes, fewer before no, and itself.
-use Rattle.std.proofs.Common.{◌≡◌, ℕ, suc, ◌+◌, ◌^◌, ◌<◌, ◌≤◌, max, true, false, List, length, Option, Some, None, MatchOption, ap, subst, inl, inr, arith}
-use Rattle.std.proofs.Common.{lit<}
+use Rattle.std.proofs.Common.{◌≡◌, ℕ, suc, ◌+◌, ◌^◌, ◌<◌, ◌≤◌, max, true, false, List, length, Option, Some, None}
+use Rattle.std.proofs.Common.{MatchOption, ap, subst, inl, inr, arith, lit<}
 use Rattle.std.proofs.Math.Nat.{two-pow-succ, one-le-pow, pow-le-pow_right}
 use Rattle.std.proofs.lemmas.List.{length-append}
 use Rattle.diff_graph.specs.declared.lit.Lit.{Lit}
@@ -45,8 +45,8 @@ module _ {W : Type 0} where
       let some = some_power (longest_path (Ask l on_yes on_no)) in
       omega (arith, ap (λ (x : Questions W). length x.asked) none.1)
   list_is_shorter (Ask l on_yes on_no) w q (inr (possible, (y, of_y, joins))) =
-      joined_is_shorter w y q (QuestionList on_no (with_answer w l false)) (longest_path on_yes) (longest_path on_no) y.failing
-      (list_is_shorter on_yes (with_answer w l true) y of_y)
+      joined_is_shorter w y q (QuestionList on_no (with_answer w l false)) (longest_path on_yes) (longest_path on_no)
+      y.failing (list_is_shorter on_yes (with_answer w l true) y of_y)
       (λ n of_n. list_is_shorter on_no (with_answer w l false) n of_n) joins
   list_is_shorter Holds w q is =
       let some = some_power 0 in

@@ -4,8 +4,8 @@ use Rattle.diff_graph.specs.declared.lit.Lit.{Lit}
 use Rattle.ask_core.specs.declared.tree.Tok.{Tok}
 use Rattle.ask_core.specs.declared.tree.Tok.TheVariants as token
 use Rattle.ask_core.specs.Plans.{Plan, Ask, Holds, Fails}
-use Rattle.ask_core.specs.Trees.{AnswerTree, Question, End, Impossible, Fits, Branch, Completes, CompletesBehind, CompletesParts, IsCycleAmong, tokens_of}
-use Rattle.ask_core.specs.Trees.{with_answer}
+use Rattle.ask_core.specs.Trees.{AnswerTree, Question, End, Impossible, Fits, Branch, Completes, CompletesBehind}
+use Rattle.ask_core.specs.Trees.{CompletesParts, IsCycleAmong, tokens_of, with_answer}
 
 -- a branch of a plan and answers
 abbrev at : {W : Type 0} → Plan W → List Lit → Branch W
@@ -46,7 +46,8 @@ module _ {W : Type 0} where
       → Completes (token.Ask ∷ tokens) (at p w ∷ branches) → CompletesParts tokens p w branches
   question_taken (Ask l on_yes on_no) w branches tokens whole = question_parts l on_yes on_no w branches tokens whole
   question_taken Holds w branches tokens whole = question_at_an_end Holds w branches tokens (λ t u fits. fits) whole
-  question_taken (Fails why) w branches tokens whole = question_at_an_end (Fails why) w branches tokens (λ t u fits. fits) whole
+  question_taken (Fails why) w branches tokens whole =
+      question_at_an_end (Fails why) w branches tokens (λ t u fits. fits) whole
 
   question_begun :
       (p : Plan W) (w : List Lit) (branches : List (Branch W)) (tokens : List Tok)
@@ -81,7 +82,8 @@ module _ {W : Type 0} where
   Completes-taken tok tokens [] whole = cc
   Completes-taken token.Ask tokens (b ∷ branches) whole = question_taken b.plan b.answers branches tokens whole
   Completes-taken token.Holds tokens (b ∷ branches) whole = end_taken b.plan b.answers branches tokens whole
-  Completes-taken (token.Cycle picks) tokens (b ∷ branches) whole = cycle_taken picks b.plan b.answers branches tokens whole
+  Completes-taken (token.Cycle picks) tokens (b ∷ branches) whole =
+      cycle_taken picks b.plan b.answers branches tokens whole
 
   pub Completes-begun :
       (tok : Tok) (tokens : List Tok) (branches : List (Branch W))
@@ -89,4 +91,5 @@ module _ {W : Type 0} where
   Completes-begun tok tokens [] behind = absurd behind
   Completes-begun token.Ask tokens (b ∷ branches) behind = question_begun b.plan b.answers branches tokens behind
   Completes-begun token.Holds tokens (b ∷ branches) behind = (End, tokens, behind.0, refl, behind.1)
-  Completes-begun (token.Cycle picks) tokens (b ∷ branches) behind = (Impossible picks, tokens, behind.0, refl, behind.1)
+  Completes-begun (token.Cycle picks) tokens (b ∷ branches) behind =
+      (Impossible picks, tokens, behind.0, refl, behind.1)

@@ -7,6 +7,9 @@ use crate::NoMemory;
 use crate::turn::Turn;
 use diff_graph::Lit;
 
+/// The most names that the literals of a plan may speak of: numbers from 0 on.
+pub const MAX_NAMES: usize = 12;
+
 /// The most questions on one path of a plan.
 pub const MAX_QUESTIONS: u32 = 99_999;
 

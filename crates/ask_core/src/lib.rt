@@ -22,7 +22,7 @@ mod tree;
 mod turn;
 
 pub use answering::valuations_answer_questions;
-pub use asker::{Asker, MAX_QUESTIONS};
+pub use asker::{Asker, MAX_NAMES, MAX_QUESTIONS};
 pub use first::{look_at, turn_at};
 pub use fitting::{fitting_trees_hold, trees_are_judged_token_by_token};
 pub use leading::answers_lead_to_ends;

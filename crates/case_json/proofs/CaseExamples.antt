@@ -58,25 +58,31 @@ too_many_come_first = refl
 abbrev trial : List Op → List (List ℕ) → Trial
 trial ops orders = record { doc = live_cell 121 ∷ []; ops = ops; orders = orders }
 
-faultless : case_fault_of sites (trial (Ins (pos 1) 97 1 ∷ Del (pos 0) 2 ∷ []) ((1 ∷ 0 ∷ []) ∷ (0 ∷ 1 ∷ []) ∷ [])) ≡ None
+faultless : case_fault_of sites (trial (Ins (pos 1) 97 1 ∷ Del (pos 0) 2 ∷ []) ((1 ∷ 0 ∷ []) ∷ (0 ∷ 1 ∷ []) ∷ []))
+    ≡ None
 faultless = refl
 
-kind_before_position : case_fault_of (record sites { head = record sites.head { del = false } }) (trial (Del (pos 1) 1 ∷ []) []) ≡ Some (Kind 0)
+kind_before_position : case_fault_of (record sites { head = record sites.head { del = false } })
+    (trial (Del (pos 1) 1 ∷ []) []) ≡ Some (Kind 0)
 kind_before_position = refl
 
-position_before_the_next_operation : case_fault_of sites (trial (Del (pos 1) 1 ∷ Del (pos 2) 1 ∷ []) ((7 ∷ []) ∷ [])) ≡ Some (Enabled 0)
+position_before_the_next_operation :
+    case_fault_of sites (trial (Del (pos 1) 1 ∷ Del (pos 2) 1 ∷ []) ((7 ∷ []) ∷ [])) ≡ Some (Enabled 0)
 position_before_the_next_operation = refl
 
-pairs_by_their_first : case_fault_of sites (trial (Del (pos 0) 1 ∷ Del (pos 0) 2 ∷ Del (pos 0) 2 ∷ Del (pos 0) 1 ∷ []) ((7 ∷ []) ∷ []))
+pairs_by_their_first : case_fault_of sites
+    (trial (Del (pos 0) 1 ∷ Del (pos 0) 2 ∷ Del (pos 0) 2 ∷ Del (pos 0) 1 ∷ []) ((7 ∷ []) ∷ []))
     ≡ Some (Pair 0 3)
 pairs_by_their_first = refl
 
-names_twice : case_fault_of sites (trial (Del (pos 0) 1 ∷ Del (pos 0) 2 ∷ []) ((0 ∷ 1 ∷ []) ∷ (1 ∷ 1 ∷ []) ∷ [])) ≡ Some (Order 1)
+names_twice : case_fault_of sites (trial (Del (pos 0) 1 ∷ Del (pos 0) 2 ∷ []) ((0 ∷ 1 ∷ []) ∷ (1 ∷ 1 ∷ []) ∷ []))
+    ≡ Some (Order 1)
 names_twice = refl
 
 -- whole cases, from their bytes
 three : trial_in sites
-    (codes "{\"doc\":\"y\",\"ops\":[[\"ins\",1,\"a\",1],[\"del\",0,2],[\"ins\",0,\"c\",3]],\"orders\":[[0,1,2],[1,0,2]]}")
+    (codes
+    "{\"doc\":\"y\",\"ops\":[[\"ins\",1,\"a\",1],[\"del\",0,2],[\"ins\",0,\"c\",3]],\"orders\":[[0,1,2],[1,0,2]]}")
     ≡ Ok (trial (Ins (pos 1) 97 1 ∷ Del (pos 0) 2 ∷ Ins (pos 0) 99 3 ∷ []) ((0 ∷ 1 ∷ 2 ∷ []) ∷ (1 ∷ 0 ∷ 2 ∷ []) ∷ []))
 unfolding serde_json_on_literals trial_in chars is_utf8 cells_within
 three = refl
@@ -97,11 +103,13 @@ no_orders : trial_in sites (codes "{\"doc\":\"\",\"ops\":[]}") ≡ Err (Field Or
 unfolding serde_json_on_literals trial_in chars is_utf8 cells_within
 no_orders = refl
 
-behind_the_end : trial_in sites (codes "{\"doc\":\"y\",\"ops\":[[\"ins\",5,\"a\",1]],\"orders\":[[0]]}") ≡ Err (Enabled 0)
+behind_the_end : trial_in sites (codes "{\"doc\":\"y\",\"ops\":[[\"ins\",5,\"a\",1]],\"orders\":[[0]]}")
+    ≡ Err (Enabled 0)
 unfolding serde_json_on_literals trial_in chars is_utf8 cells_within
 behind_the_end = refl
 
-one_site : trial_in sites (codes "{\"doc\":\"y\",\"ops\":[[\"ins\",0,\"a\",1],[\"ins\",1,\"b\",1]],\"orders\":[[0,1]]}") ≡ Err (Pair 0 1)
+one_site : trial_in sites (codes "{\"doc\":\"y\",\"ops\":[[\"ins\",0,\"a\",1],[\"ins\",1,\"b\",1]],\"orders\":[[0,1]]}")
+    ≡ Err (Pair 0 1)
 unfolding serde_json_on_literals trial_in chars is_utf8 cells_within
 one_site = refl
 

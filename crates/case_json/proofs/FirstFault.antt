@@ -1,5 +1,6 @@
 -- What holds of a case whose parts no test finds a fault in.
-use Rattle.std.proofs.Common.{◌≡◌, ◌↔◌, ℕ, ◌+◌, ◌≤◌, Bool, true, false, List, [], ◌∷◌, length, Option, Some, None, refl, if◌then◌else◌}
+use Rattle.std.proofs.Common.{◌≡◌, ◌↔◌, ℕ, ◌+◌, ◌≤◌, Bool, true, false, List, [], ◌∷◌, length, Option, Some, None, refl}
+use Rattle.std.proofs.Common.{if◌then◌else◌}
 use Rattle.std.specs.Option.{option_or}
 use Rattle.std.specs.List.{AllByRecursion}
 use Rattle.std.specs.Cmp.Derive.{both_true}
@@ -20,7 +21,8 @@ use Rattle.case_json.specs.declared.limits.TheConstants.{MAX_ORDERS}
 use Rattle.case_json.specs.declared.fault.CaseFault.{CaseFault}
 use Rattle.case_json.specs.declared.fault.CaseFault.TheVariants as faults
 use Rattle.case_json.specs.declared.trial.Trial.{Trial}
-use Rattle.case_json.specs.Tests.{first_fault, operation_fault, pair_fault, pairs_fault, order_fault, case_fault_of, IsReadyTrial}
+use Rattle.case_json.specs.Tests.{first_fault, operation_fault, pair_fault, pairs_fault, order_fault, case_fault_of}
+use Rattle.case_json.specs.Tests.{IsReadyTrial}
 
 -- where nothing was found, nothing is in front
 option_or-none : {A : Type 0} (found other : Option A) → option_or found other ≡ None → (found ≡ None) × (other ≡ None)
@@ -46,7 +48,8 @@ operation_fault-none : (f : Function) (cells n : ℕ) (o : Op) → operation_fau
 operation_fault-none f cells n o none = by (has_declared_kind f.head (kind_of o)) none
   where
     by : (declared : Bool)
-        → (if declared then (if is_enabled o cells then None else Some (faults.Enabled n)) else Some (faults.Kind n)) ≡ None
+        → (if declared then (if is_enabled o cells then None else Some (faults.Enabled n))
+        else Some (faults.Kind n)) ≡ None
         → (declared ≡ true) × (is_enabled o cells ≡ true)
     by false none = cc
     by true none = (refl, passed (is_enabled o cells) (faults.Enabled n) none)
@@ -72,15 +75,18 @@ module _ (decide : TestsDecide) (f : Function) where
   pair_fault-none i a j b none = (decide.allowed f a b).0 (passed (is_allowed f a b) (faults.Pair i j) none)
 
   order_fault-none : (count i : ℕ) (order : List ℕ) → order_fault count i order ≡ None → NamesEachOnce count order
-  order_fault-none count i order none = decide.once count order (passed (names_each_once count order) (faults.Order i) none)
+  order_fault-none count i order none =
+      decide.once count order (passed (names_each_once count order) (faults.Order i) none)
 
   -- operations without a fault, alone and in pairs, are concurrent
   faultless-concurrent : (d : List Cell) (n i : ℕ) (ops : List Op)
       → first_fault (operation_fault f (length d)) n ops ≡ None → pairs_fault f i ops ≡ None → AreConcurrent f d ops
   faultless-concurrent d n i [] alone pairs = tt
   faultless-concurrent d n i (o ∷ others) alone pairs =
-      let here = option_or-none (operation_fault f (length d) n o) (first_fault (operation_fault f (length d)) (n + 1) others) alone in
-      let with_others = option_or-none (first_fault (pair_fault f i o) (i + 1) others) (pairs_fault f (i + 1) others) pairs in (
+      let here = option_or-none (operation_fault f (length d) n o)
+      (first_fault (operation_fault f (length d)) (n + 1) others) alone in
+      let with_others = option_or-none (first_fault (pair_fault f i o) (i + 1) others)
+      (pairs_fault f (i + 1) others) pairs in (
         (operation_fault-none f (length d) n o here.0).0,
         (operation_fault-integrable (length d) n o here.0).enabled,
         first_fault-none (pair_fault f i o) (IsAllowed f o) (pair_fault-none i o) (i + 1) others with_others.0,
@@ -89,7 +95,8 @@ module _ (decide : TestsDecide) (f : Function) where
 
   -- a trial within the limits that has no fault is ready
   pub faultless-ready : (trial : Trial) → case_fault_of f trial ≡ None
-      → length trial.doc ≤ MAX_CELLS → length trial.ops ≤ MAX_OPERATIONS → length trial.orders ≤ MAX_ORDERS → IsReadyTrial f trial
+      → length trial.doc ≤ MAX_CELLS → length trial.ops ≤ MAX_OPERATIONS
+      → length trial.orders ≤ MAX_ORDERS → IsReadyTrial f trial
   faultless-ready trial none cells ops orders =
       let operation : ℕ → Op → Option CaseFault = operation_fault f (length trial.doc) in
       let order : ℕ → List ℕ → Option CaseFault = order_fault (length trial.ops) in
@@ -99,10 +106,11 @@ module _ (decide : TestsDecide) (f : Function) where
       record {
         concurrent = faultless-concurrent trial.doc 0 0 trial.ops first.0 second.0;
         integrable = All-from_recursion (IsIntegrable f (length trial.doc)) trial.ops
-            (first_fault-none operation (IsIntegrable f (length trial.doc)) (operation_fault-integrable (length trial.doc))
-            0 trial.ops first.0);
+            (first_fault-none operation (IsIntegrable f (length trial.doc))
+            (operation_fault-integrable (length trial.doc)) 0 trial.ops first.0);
         orders = All-from_recursion (NamesEachOnce (length trial.ops)) trial.orders
-            (first_fault-none order (NamesEachOnce (length trial.ops)) (order_fault-none (length trial.ops)) 0 trial.orders second.1);
+            (first_fault-none order (NamesEachOnce (length trial.ops)) (order_fault-none (length trial.ops))
+            0 trial.orders second.1);
         few_cells = cells;
         few_ops = ops;
         few_orders = orders;

@@ -9,3 +9,4 @@ pub mod ScriptExamples
 pub mod Scripts
 mod Tested
 pub mod Writing
+pub mod JsonRead

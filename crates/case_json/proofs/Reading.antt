@@ -1,7 +1,7 @@
 -- The reading of a document's text, cell by cell.
-use Rattle.std.proofs.Common.{◌≡◌, ℕ, zero, suc, ◌+◌, ◌-◌, ◌<◌, ◌≤◌, Bool, true, false, List, [], ◌∷◌, ◌++◌, length, Some, None, Option}
-use Rattle.std.proofs.Common.{Result}
-use Rattle.std.proofs.Common.{Ok, Err, refl, sym, ap, length-append, ◌∙◌, subst, arith, nat_eq, eqb-true, if◌then◌else◌}
+use Rattle.std.proofs.Common.{◌≡◌, ℕ, zero, suc, ◌+◌, ◌-◌, ◌<◌, ◌≤◌, Bool, true, false, List, [], ◌∷◌, ◌++◌, length}
+use Rattle.std.proofs.Common.{Some, None, Option, Result, Ok, Err, refl, sym, ap, length-append, ◌∙◌, subst, arith}
+use Rattle.std.proofs.Common.{nat_eq, eqb-true, if◌then◌else◌}
 use Rattle.std.specs.Option.{option_map}
 use Rattle.std.specs.Prelude.{encode_utf8_all, IsUtf8}
 use Rattle.std.specs.Str.{chars}
@@ -13,8 +13,8 @@ use Rattle.case_json.specs.declared.fault.CaseFault.TheVariants.{Field, Limit}
 use Rattle.case_json.specs.declared.fault.Name.TheVariants.{Doc, Cells}
 use Rattle.case_json.specs.declared.stop.CaseError.{CaseError}
 use Rattle.case_json.specs.Faults.{CaseReads}
-use Rattle.case_json.specs.DocText.{with_flag, backslash, tilde, newline, carriage_return, letter_n, letter_r, cells_within, with_first}
-use Rattle.case_json.specs.DocText.{cell_at, char_at, cell_text, char_text, doc_text}
+use Rattle.case_json.specs.DocText.{with_flag, backslash, tilde, newline, carriage_return, letter_n, letter_r}
+use Rattle.case_json.specs.DocText.{cells_within, with_first, cell_at, char_at, cell_text, char_text, doc_text}
 
 -- cells in front of the cells of a reading
 abbrev pub with_all : List Cell → Result (List Cell) CaseFault → Result (List Cell) CaseFault
@@ -40,14 +40,16 @@ cells_within-nil zero = refl
 cells_within-nil (suc room) = refl
 
 -- a text that begins with no cell
-pub cells_within-fault : (room : ℕ) (text : List ℕ) → 0 < length text → cell_at text ≡ None → cells_within room text ≡ Err (Field Doc)
+pub cells_within-fault : (room : ℕ) (text : List ℕ) → 0 < length text → cell_at text ≡ None
+    → cells_within room text ≡ Err (Field Doc)
 unfolding cells_within
 cells_within-fault room [] some none = absurd (omega arith)
 cells_within-fault zero (c ∷ behind) some none = rw none refl
 cells_within-fault (suc room) (c ∷ behind) some none = rw none refl
 
 -- a text that begins with a cell where no further one is allowed
-pub cells_within-full : (text behind : List ℕ) (cell : Cell) → cell_at text ≡ Some (cell, behind) → cells_within 0 text ≡ Err (Limit Cells)
+pub cells_within-full : (text behind : List ℕ) (cell : Cell) → cell_at text ≡ Some (cell, behind)
+    → cells_within 0 text ≡ Err (Limit Cells)
 unfolding cells_within
 cells_within-full [] behind cell is = cc
 cells_within-full (c ∷ cs) behind cell is = rw is refl
@@ -71,10 +73,12 @@ written_by false false false false ch = ch ∷ []
 abbrev in_front : List ℕ → ℕ → Option (ℕ × List ℕ)
 in_front behind ch = Some (ch, behind)
 
-in_front-same : (ch escaped : ℕ) (behind : List ℕ) → nat_eq ch escaped ≡ true → in_front behind escaped ≡ in_front behind ch
+in_front-same : (ch escaped : ℕ) (behind : List ℕ) → nat_eq ch escaped ≡ true
+    → in_front behind escaped ≡ in_front behind ch
 in_front-same ch escaped behind is = ap (in_front behind) (sym (eqb-true ch escaped is))
 
-char_at-written_by : (b t n r : Bool) (ch : ℕ) (behind : List ℕ) → nat_eq ch backslash ≡ b → nat_eq ch tilde ≡ t → nat_eq ch newline ≡ n
+char_at-written_by : (b t n r : Bool) (ch : ℕ) (behind : List ℕ) → nat_eq ch backslash ≡ b
+    → nat_eq ch tilde ≡ t → nat_eq ch newline ≡ n
     → nat_eq ch carriage_return ≡ r → char_at (written_by b t n r ch ++ behind) ≡ Some (ch, behind)
 char_at-written_by true t n r ch behind is_b is_t is_n is_r = in_front-same ch backslash behind is_b
 char_at-written_by false true n r ch behind is_b is_t is_n is_r = in_front-same ch tilde behind is_t
@@ -132,7 +136,8 @@ cells_within-doc_text (cell ∷ doc) (suc room) fits =
     ∙ ap (with_first cell) (cells_within-doc_text doc room (omega arith))
 
 -- so a text that was written has the document as its reading
-pub written_reads : (answer : Result (List Cell) CaseError) (text : List ℕ) → CaseReads answer (cells_within MAX_CELLS text)
+pub written_reads : (answer : Result (List Cell) CaseError) (text : List ℕ)
+    → CaseReads answer (cells_within MAX_CELLS text)
     → (doc : List Cell) → length doc ≤ MAX_CELLS → text ≡ doc_text doc → CaseReads answer (Ok doc)
 written_reads answer text reads doc fits written =
     subst (CaseReads answer) (ap (cells_within MAX_CELLS) written ∙ cells_within-doc_text doc MAX_CELLS fits) reads
@@ -148,7 +153,8 @@ chars_some bytes utf8 some = spelled (chars bytes) (encodes-chars bytes utf8)
 -- the states of a reading: so many cells were read, and their reading goes on with the rest
 module _ (limit : ℕ) (doc : List Cell) (text rest : List ℕ)
     (read : cells_within limit text ≡ with_all doc (cells_within (limit - length doc) rest)) where
-  pub reading_goes_on : (next : List Cell) (cell : Cell) (behind : List ℕ) → length doc < limit → cell_at rest ≡ Some (cell, behind)
+  pub reading_goes_on : (next : List Cell) (cell : Cell) (behind : List ℕ) → length doc < limit
+      → cell_at rest ≡ Some (cell, behind)
       → next ≡ doc ++ cell ∷ [] → cells_within limit text ≡ with_all next (cells_within (limit - length next) behind)
   reading_goes_on next cell behind room first is =
       let count : length next ≡ length doc + 1 = ap length is ∙ length-append doc (cell ∷ []) in
@@ -168,4 +174,5 @@ module _ (limit : ℕ) (doc : List Cell) (text rest : List ℕ)
 
   pub reading_ends : rest ≡ [] → cells_within limit text ≡ Ok doc
   reading_ends nothing =
-      read ∙ ap (with_all doc) (ap (cells_within (limit - length doc)) nothing ∙ cells_within-nil (limit - length doc)) ∙ with_all-nil doc
+      read ∙ ap (with_all doc) (ap (cells_within (limit - length doc)) nothing ∙ cells_within-nil (limit - length doc))
+      ∙ with_all-nil doc

@@ -1,6 +1,6 @@
 -- Readings one behind another, and what a trial that was read keeps.
-use Rattle.std.proofs.Common.{◌≡◌, ◌⊎◌, ◌≤◌, ℕ, zero, suc, Bool, true, false, List, [], ◌∷◌, length, Option, Some, None, Result, Ok}
-use Rattle.std.proofs.Common.{Err, refl, sym, ap, subst, inl, inr, arith, is_some, codes, if◌then◌else◌}
+use Rattle.std.proofs.Common.{◌≡◌, ◌⊎◌, ◌≤◌, ℕ, zero, suc, Bool, true, false, List, [], ◌∷◌, length, Option, Some, None}
+use Rattle.std.proofs.Common.{Result, Ok, Err, refl, sym, ap, subst, inl, inr, arith, is_some, codes, if◌then◌else◌}
 use Rattle.std.specs.Prelude.{IsUtf8, IsErrAnd}
 use Rattle.std.specs.Option.{ok_or, option_and_then}
 use Rattle.std.specs.Str.{is_utf8, chars}
@@ -30,7 +30,8 @@ use Rattle.case_json.specs.DocText.{cells_within, no_cells, with_first, with_cel
 use Rattle.case_json.specs.Json.{json_in, elements_of}
 use Rattle.case_json.specs.Operations.{operation_in}
 use Rattle.case_json.specs.Tests.{case_fault_of, IsReadyTrial}
-use Rattle.case_json.specs.Cases.{document_from, document_in, operations_in, order_in, orders_in, parts_in, case_in, tested, trial_in}
+use Rattle.case_json.specs.Cases.{document_from, document_in, operations_in, order_in, orders_in, parts_in, case_in}
+use Rattle.case_json.specs.Cases.{tested, trial_in}
 use Rattle.case_json.proofs.Elements.{elements_from-few}
 use Rattle.case_json.proofs.FirstFault.{TestsDecide, faultless-ready}
 
@@ -45,7 +46,8 @@ pub error_passed_on : {A B : Type 0} (answer : Result B CaseError) (error : Case
     (further : A → Result B CaseFault) → IsErrAnd answer (λ passed. passed ≡ error) → CaseReads (Err error) reading
     → CaseReads answer (and_then_read reading further)
 error_passed_on {A} {B} (Ok value) error reading further passes reads = absurd passes
-error_passed_on {A} {B} (Err passed) error reading further passes reads = rw passes (stops_first error reading further reads)
+error_passed_on {A} {B} (Err passed) error reading further passes reads =
+    rw passes (stops_first error reading further reads)
 
 memory_or_not : (code : Code) → (code ≡ OutOfMemory) ⊎ (¬ (code ≡ OutOfMemory))
 memory_or_not Invalid = inr (λ is. cc)
@@ -53,7 +55,8 @@ memory_or_not NumberOutOfRange = inr (λ is. cc)
 memory_or_not OutOfMemory = inl refl
 
 -- bytes that were read as a value
-pub json_value : (bytes : List ℕ) (json : Data) → IsUtf8 bytes → read bytes ≡ Some json → ok_or (json_in bytes) Json ≡ Ok json
+pub json_value : (bytes : List ℕ) (json : Data) → IsUtf8 bytes → read bytes ≡ Some json
+    → ok_or (json_in bytes) Json ≡ Ok json
 json_value bytes json utf8 is = rw (is_utf8-from_IsUtf8 bytes utf8, is) refl
 
 -- bytes that were not
@@ -72,7 +75,8 @@ json_fault bytes error (Err stop) gives refuses = elim (memory_or_not error.code
     unread true is none = rw (none (IsUtf8-from_is_utf8 bytes is)) refl
     unread false is none = refl
 
-with_first-ok : (cell : Cell) (reading : Result (List Cell) CaseFault) (doc : List Cell) → with_first cell reading ≡ Ok doc
+with_first-ok : (cell : Cell) (reading : Result (List Cell) CaseFault) (doc : List Cell)
+    → with_first cell reading ≡ Ok doc
     → (cells : List Cell) × (reading ≡ Ok cells) × (length doc ≡ suc (length cells))
 with_first-ok cell (Ok cells) doc is = let same : cell ∷ cells ≡ doc = cc in (cells, refl, sym (ap length same))
 with_first-ok cell (Err fault) doc is = cc
@@ -93,7 +97,8 @@ cells_within-few zero (c ∷ behind) doc is = no_cells-few (c ∷ behind) doc is
 cells_within-few (suc room) [] doc is = let none : [] ≡ doc = cc in omega (arith, ap length none)
 cells_within-few (suc room) (c ∷ behind) doc is = by (cell_at (c ∷ behind)) (cells_within-few room) is
   where
-    by : (first : Option (Cell × List ℕ)) → ((text : List ℕ) (cells : List Cell) → cells_within room text ≡ Ok cells → length cells ≤ room)
+    by : (first : Option (Cell × List ℕ))
+        → ((text : List ℕ) (cells : List Cell) → cells_within room text ≡ Ok cells → length cells ≤ room)
         → with_cells_behind first (cells_within room) ≡ Ok doc → length doc ≤ suc room
     by None few is = cc
     by (Some first) few is =
@@ -101,25 +106,28 @@ cells_within-few (suc room) (c ∷ behind) doc is = by (cell_at (c ∷ behind)) 
         let bound : length parts.0 ≤ room = few first.1 parts.0 parts.1 in
         omega (arith, parts.2, bound)
 
-pub document_from-few : (text : Option (List ℕ)) (doc : List Cell) → document_from text ≡ Ok doc → length doc ≤ MAX_CELLS
+pub document_from-few : (text : Option (List ℕ)) (doc : List Cell)
+    → document_from text ≡ Ok doc → length doc ≤ MAX_CELLS
 document_from-few None doc is = cc
 document_from-few (Some text) doc is = cells_within-few MAX_CELLS (chars text) doc is
 
 -- no more cells, operations and orders than are allowed
 abbrev pub IsLimited : Trial → Type 0
-IsLimited trial = (length trial.doc ≤ MAX_CELLS) × (length trial.ops ≤ MAX_OPERATIONS) × (length trial.orders ≤ MAX_ORDERS)
+IsLimited trial =
+    (length trial.doc ≤ MAX_CELLS) × (length trial.ops ≤ MAX_OPERATIONS) × (length trial.orders ≤ MAX_ORDERS)
 
 -- a trial of its parts
 abbrev of_parts : List Cell → List Op → List (List ℕ) → Trial
 of_parts doc ops orders = record { doc = doc; ops = ops; orders = orders }
 
 -- a trial whose parts are within the limits is within them
-parts-few : (doc : Result (List Cell) CaseFault) (ops : Result (List Op) CaseFault) (orders : Result (List (List ℕ)) CaseFault)
-    (trial : Trial)
+parts-few : (doc : Result (List Cell) CaseFault) (ops : Result (List Op) CaseFault)
+    (orders : Result (List (List ℕ)) CaseFault) (trial : Trial)
     → ((cells : List Cell) → doc ≡ Ok cells → length cells ≤ MAX_CELLS)
     → ((list : List Op) → ops ≡ Ok list → length list ≤ MAX_OPERATIONS)
     → ((list : List (List ℕ)) → orders ≡ Ok list → length list ≤ MAX_ORDERS)
-    → and_then_read doc (λ d. and_then_read ops (λ os. and_then_read orders (λ lists. Ok (of_parts d os lists)))) ≡ Ok trial
+    → and_then_read doc (λ d. and_then_read ops (λ os. and_then_read orders (λ lists. Ok (of_parts d os lists))))
+    ≡ Ok trial
     → IsLimited trial
 parts-few (Err fault) ops orders trial few_cells few_ops few_orders is = cc
 parts-few (Ok d) (Err fault) orders trial few_cells few_ops few_orders is = cc
@@ -128,7 +136,8 @@ parts-few (Ok d) (Ok os) (Ok lists) trial few_cells few_ops few_orders is =
     let same : of_parts d os lists ≡ trial = cc in
     subst IsLimited same (few_cells d refl, few_ops os refl, few_orders lists refl)
 
-case_in-limited : (json : Result Data CaseFault) (trial : Trial) → and_then_read json parts_in ≡ Ok trial → IsLimited trial
+case_in-limited : (json : Result Data CaseFault) (trial : Trial)
+    → and_then_read json parts_in ≡ Ok trial → IsLimited trial
 case_in-limited (Err fault) trial is = cc
 case_in-limited (Ok json) trial is =
     parts-few (document_in json) (operations_in json) (orders_in json) trial
@@ -143,12 +152,14 @@ case_in-few bytes trial is = case_in-limited (ok_or (json_in bytes) Json) trial 
 
 module _ (decide : TestsDecide) (f : Function) where
   -- a trial that was read and has no fault is ready
-  tested-ready : (reading : Result Trial CaseFault) (trial : Trial) → ((parts : Trial) → reading ≡ Ok parts → IsLimited parts)
+  tested-ready : (reading : Result Trial CaseFault) (trial : Trial)
+      → ((parts : Trial) → reading ≡ Ok parts → IsLimited parts)
       → and_then_read reading (λ parts. tested (case_fault_of f parts) parts) ≡ Ok trial → IsReadyTrial f trial
   tested-ready (Err fault) trial few is = cc
   tested-ready (Ok parts) trial few is = by (case_fault_of f parts) refl is
     where
-      by : (fault : Option CaseFault) → case_fault_of f parts ≡ fault → tested fault parts ≡ Ok trial → IsReadyTrial f trial
+      by : (fault : Option CaseFault) → case_fault_of f parts ≡ fault
+          → tested fault parts ≡ Ok trial → IsReadyTrial f trial
       by (Some fault) none is = cc
       by None none is =
           let same : parts ≡ trial = cc in

@@ -45,7 +45,8 @@ sites_before_events : script_in (codes "{\"doc\":\"\",\"sites\":17,\"events\":[7
 unfolding serde_json_on_literals chars is_utf8 cells_within
 sites_before_events = refl
 
-no_operation : script_in (codes "{\"doc\":\"\",\"sites\":1,\"events\":[[\"make\",1,[\"ins\",0,\"ab\",1]]]}") ≡ Err (Field Events)
+no_operation : script_in (codes "{\"doc\":\"\",\"sites\":1,\"events\":[[\"make\",1,[\"ins\",0,\"ab\",1]]]}")
+    ≡ Err (Field Events)
 unfolding serde_json_on_literals chars is_utf8 cells_within
 no_operation = refl
 

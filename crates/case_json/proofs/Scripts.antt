@@ -1,5 +1,6 @@
 -- What a script that was read keeps.
-use Rattle.std.proofs.Common.{◌≡◌, ◌≤◌, ℕ, Bool, true, false, Option, Some, None, Ok, Err, refl, arith, nat_eq, nat_le, if◌then◌else◌}
+use Rattle.std.proofs.Common.{◌≡◌, ◌≤◌, ℕ, Bool, true, false, Option, Some, None, Ok, Err, refl, arith, nat_eq, nat_le}
+use Rattle.std.proofs.Common.{if◌then◌else◌}
 use Rattle.std.proofs.lemmas.Bool.{leb-true}
 use Rattle.case_json.specs.declared.limits.TheConstants.{MAX_SITES}
 use Rattle.case_json.specs.declared.fault.CaseFault.TheVariants.{Field, Limit}

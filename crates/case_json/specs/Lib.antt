@@ -8,3 +8,7 @@ pub mod Parts
 pub mod Scripts
 pub mod Hubs
 pub use Rattle.ot_model.specs.Cells
+pub mod Misfits
+pub mod Paths
+pub mod Lines
+pub mod PathTexts

@@ -1,5 +1,6 @@
 -- What completes the open branches behind a token, by what the token leaves of them.
-use Rattle.std.proofs.Common.{◌≡◌, ◌↔◌, ℕ, ◌≤◌, List, [], ◌∷◌, length, Result, Ok, Err, ◌⊎◌, inl, inr, arith, refl, subst, sym}
+use Rattle.std.proofs.Common.{◌≡◌, ◌↔◌, ℕ, ◌≤◌, List, [], ◌∷◌, length, Result, Ok, Err, ◌⊎◌, inl, inr, arith, refl}
+use Rattle.std.proofs.Common.{subst, sym}
 use Rattle.diff_graph.specs.declared.lit.Lit.{Lit}
 use Rattle.diff_graph.specs.declared.lit.PickError.{PickError}
 use Rattle.diff_graph.specs.Cycles.{pick_verdict}
@@ -9,7 +10,8 @@ use Rattle.ask_core.specs.Plans.{Plan, Ask, Holds, Fails}
 use Rattle.ask_core.specs.Trees.{Branch, Completes, CompletesBehind, CompletesParts, End, Fits, IsCycleAmong}
 use Rattle.cert_check.specs.declared.verdict.CheckError.{CheckError}
 use Rattle.cert_check.specs.declared.verdict.CheckError.TheVariants as end
-use Rattle.cert_check.specs.Steps.{after, branches_after_cycle, branches_after_end, branches_after_question, HasFewPicks}
+use Rattle.cert_check.specs.Steps.{after, branches_after_cycle, branches_after_end, branches_after_question}
+use Rattle.cert_check.specs.Steps.{HasFewPicks}
 
 -- no numbers are no cycle
 cycle_has_picks : (w : List Lit) (picks : List ℕ) → pick_verdict w picks ≡ Ok tt → 1 ≤ length picks
@@ -37,7 +39,8 @@ module _ {W : Type 0} where
   after_end (Fails why) w branches tokens = (λ held. held.0, λ none. absurd none)
 
   after_cycle :
-      (w : List Lit) (picks : List ℕ) (branches : List (Branch W)) (tokens : List Tok) (verdict : Result (Unit {0}) PickError)
+      (w : List Lit) (picks : List ℕ) (branches : List (Branch W)) (tokens : List Tok)
+      (verdict : Result (Unit {0}) PickError)
       → pick_verdict w picks ≡ verdict → (IsCycleAmong w picks × Completes tokens branches)
       → IsCompleted tokens (branches_after_cycle verdict branches)
   after_cycle w picks branches tokens (Ok done) is (cycle, rest) = rest
@@ -45,7 +48,8 @@ module _ {W : Type 0} where
       let ok : pick_verdict w picks ≡ Ok tt = cycle.2 in cc
 
   before_cycle :
-      (w : List Lit) (picks : List ℕ) (branches : List (Branch W)) (tokens : List Tok) (verdict : Result (Unit {0}) PickError)
+      (w : List Lit) (picks : List ℕ) (branches : List (Branch W)) (tokens : List Tok)
+      (verdict : Result (Unit {0}) PickError)
       → HasFewPicks (token.Cycle picks) → pick_verdict w picks ≡ verdict
       → IsCompleted tokens (branches_after_cycle verdict branches) → IsCycleAmong w picks × Completes tokens branches
   before_cycle w picks branches tokens (Ok done) few is rest = ((cycle_has_picks w picks is, few, is), rest)
@@ -64,8 +68,10 @@ module _ {W : Type 0} where
       (tok : Tok) (branches : List (Branch W)) (tokens : List Tok) → HasFewPicks tok
       → IsCompleted tokens (after tok branches) → CompletesBehind tok tokens branches
   CompletesBehind-before tok [] tokens few none = none
-  CompletesBehind-before token.Ask (b ∷ branches) tokens few rest = (after_question b.plan b.answers branches tokens).1 rest
-  CompletesBehind-before token.Holds (b ∷ branches) tokens few rest = (after_end b.plan b.answers branches tokens).1 rest
+  CompletesBehind-before token.Ask (b ∷ branches) tokens few rest =
+      (after_question b.plan b.answers branches tokens).1 rest
+  CompletesBehind-before token.Holds (b ∷ branches) tokens few rest =
+      (after_end b.plan b.answers branches tokens).1 rest
   CompletesBehind-before (token.Cycle picks) (b ∷ branches) tokens few rest =
       before_cycle b.answers picks branches tokens (pick_verdict b.answers picks) few refl rest
 
@@ -91,7 +97,8 @@ module _ {W : Type 0} (by_token : ByToken W) (tok : Tok) (branches : List (Branc
   )
 
   -- a token that is refused begins nothing that completes them
-  pub Completes-refused : (why : CheckError) (tokens : List Tok) → after tok branches ≡ Err why → Completes (tok ∷ tokens) branches → ⊥
+  pub Completes-refused : (why : CheckError) (tokens : List Tok) → after tok branches ≡ Err why
+      → Completes (tok ∷ tokens) branches → ⊥
   Completes-refused why tokens refused whole =
       subst (λ (x : Result (List (Branch W)) CheckError). IsCompleted tokens x) refused
       (IsCompleted-after tok branches tokens ((by_token tok tokens branches).0 whole))

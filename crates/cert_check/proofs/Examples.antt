@@ -39,7 +39,8 @@ after-first_question = refl
 
 after-second_question :
     after token.Ask (branch yes_part (at_most ∷ []) ∷ branch no_part (above ∷ []) ∷ [])
-    ≡ Ok (branch (Fails 7) (at_most ∷ above ∷ []) ∷ branch Holds (at_most ∷ at_most ∷ []) ∷ branch no_part (above ∷ []) ∷ [])
+    ≡ Ok (branch (Fails 7) (at_most ∷ above ∷ []) ∷ branch Holds (at_most ∷ at_most ∷ [])
+    ∷ branch no_part (above ∷ []) ∷ [])
 after-second_question = refl
 
 after-cycle :

@@ -1,5 +1,6 @@
 -- What feeding a token keeps of a checker.
-use Rattle.std.proofs.Common.{◌≡◌, ℕ, ℤ, ◌<◌, List, [], ◌∷◌, length, Bool, true, false, Ok, IsTrue, ◌↔◌, arith, refl, sym, ap, ◌∙◌, subst}
+use Rattle.std.proofs.Common.{◌≡◌, ℕ, ℤ, ◌<◌, List, [], ◌∷◌, length, Bool, true, false, Ok, IsTrue, ◌↔◌, arith, refl}
+use Rattle.std.proofs.Common.{sym, ap, ◌∙◌, subst}
 use Rattle.diff_graph.specs.Literals.{AreMet}
 use Rattle.ask_core.specs.declared.tree.Tok.{Tok}
 use Rattle.ask_core.specs.Plans.{Plan, value}
@@ -12,7 +13,8 @@ use Rattle.cert_check.proofs.Completing.{ByToken, Completes-step}
 -- a checker begins with one place, at which the asker's own plan is still to be answered
 pub IsUnderWay-begun :
     {N W : Type 0} (is_own : N → Type 0) (plan : N → Plan W) (root : Plan W) (first : N) (places : List (OpenPlace N))
-    → ((tokens : List Tok) (b : Branch W) (v : ℕ → ℤ) → AreMet v b.answers → Completes tokens (b ∷ []) → value b.plan v ≡ true)
+    → ((tokens : List Tok) (b : Branch W) (v : ℕ → ℤ) → AreMet v b.answers
+    → Completes tokens (b ∷ []) → value b.plan v ≡ true)
     → is_own first × (plan first ≡ root) → places ≡ record { node = first; answers = [] } ∷ []
     → IsUnderWay is_own plan root places
 IsUnderWay-begun is_own plan root first places completed begins begun =
@@ -20,7 +22,8 @@ IsUnderWay-begun is_own plan root first places completed begins begun =
     (record {
       own = (begins.0, tt);
       follows = λ tokens whole v.
-          ap (λ (p : Plan _). value p v) (sym begins.1) ∙ completed tokens (record { plan = plan first; answers = [] }) v tt whole;
+          ap (λ (p : Plan _). value p v) (sym begins.1)
+          ∙ completed tokens (record { plan = plan first; answers = [] }) v tt whole;
     })
 
 module _ {N W : Type 0} {was_own is_own : N → Type 0} {old new : N → Plan W} (places : List (OpenPlace N)) (tok : Tok)
@@ -48,7 +51,8 @@ module _ {N W : Type 0} {was_own is_own : N → Type 0} {old new : N → Plan W}
   }
 
 -- nothing is open
-pub none_open : {N : Type 0} (test : Bool) (places : List (OpenPlace N)) → test ≡ false → (IsTrue test ↔ (0 < length places)) → places ≡ []
+pub none_open : {N : Type 0} (test : Bool) (places : List (OpenPlace N)) → test ≡ false
+    → (IsTrue test ↔ (0 < length places)) → places ≡ []
 none_open test [] closed opened = refl
 none_open test (p ∷ places) closed opened =
     let one : 0 < length (p ∷ places) = omega arith in let e : test ≡ true = opened.1 one in absurd (cc)

@@ -14,7 +14,8 @@ module _ {N W : Type 0} (plan : N → Plan W) where
   module _ (before : List (Branch W)) where
     -- `?` elsewhere
     pub question_at_held :
-        (places : List (OpenPlace N)) → branches_at plan places ≡ before → 0 < length places → first_plan plan places ≡ Holds
+        (places : List (OpenPlace N)) → branches_at plan places ≡ before → 0 < length places
+        → first_plan plan places ≡ Holds
         → after token.Ask before ≡ Err end.NotAQuestion
     question_at_held [] same opened held = absurd (omega arith)
     question_at_held (p ∷ places) same opened held = rw (← same, held)
@@ -41,7 +42,8 @@ module _ {N W : Type 0} (plan : N → Plan W) where
 
 -- a cycle closes the first place
 pub cycle_taken :
-    {N W : Type 0} (plan : N → Plan W) (places next : List (OpenPlace N)) (picks : List ℕ) → 0 < length places → next ≡ drop 1 places
+    {N W : Type 0} (plan : N → Plan W) (places next : List (OpenPlace N)) (picks : List ℕ)
+    → 0 < length places → next ≡ drop 1 places
     → pick_verdict (first_answers places) picks ≡ Ok tt
     → after (token.Cycle picks) (branches_at plan places) ≡ Ok (branches_at plan next)
 cycle_taken plan [] next picks some is cycle = absurd (omega arith)
@@ -50,14 +52,16 @@ cycle_taken plan (p ∷ places) next picks some is cycle =
 
 -- the places behind the first one are own ones too
 pub own_behind :
-    {N : Type 0} (is_own : N → Type 0) (places next : List (OpenPlace N)) → next ≡ drop 1 places → AreOwn is_own places → AreOwn is_own next
+    {N : Type 0} (is_own : N → Type 0) (places next : List (OpenPlace N)) → next ≡ drop 1 places
+    → AreOwn is_own places → AreOwn is_own next
 own_behind is_own [] next is own = rw is tt
 own_behind is_own (p ∷ places) next is own =
     let same : next ≡ places = is in rw same own.1
 
 -- `?` opens the two parts of a question
 pub question_taken :
-    {N W : Type 0} (plan : N → Plan W) (places next : List (OpenPlace N)) (l : Lit) (on_yes on_no : N) → 0 < length places
+    {N W : Type 0} (plan : N → Plan W) (places next : List (OpenPlace N)) (l : Lit) (on_yes on_no : N)
+    → 0 < length places
     → first_plan plan places ≡ Ask l (plan on_yes) (plan on_no) → next ≡ after_question l on_yes on_no places
     → after token.Ask (branches_at plan places) ≡ Ok (branches_at plan next)
 question_taken plan [] next l on_yes on_no some asks is = absurd (omega arith)
@@ -65,7 +69,8 @@ question_taken plan (p ∷ places) next l on_yes on_no some asks is = rw (is, as
 
 pub own_after :
     {N : Type 0} (is_own : N → Type 0) (places next : List (OpenPlace N)) (l : Lit) (on_yes on_no : N)
-    → next ≡ after_question l on_yes on_no places → is_own on_yes → is_own on_no → AreOwn is_own places → AreOwn is_own next
+    → next ≡ after_question l on_yes on_no places → is_own on_yes → is_own on_no
+    → AreOwn is_own places → AreOwn is_own next
 own_after is_own [] next l on_yes on_no is own_yes own_no own = rw is tt
 own_after is_own (p ∷ places) next l on_yes on_no is own_yes own_no own = rw is (own_yes, (own_no, own.1))
 

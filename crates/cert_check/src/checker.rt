@@ -2,6 +2,7 @@
 ghost use Rattle.std.specs.Prelude.{◌≡◌, ◌≢◌, ◌↔◌, ℕ, ℤ, ◌<◌, ◌≤◌, true, false, List, [], ◌∷◌, ◌++◌, length, Some};
 ghost use Rattle.std.specs.Prelude.{None, Ok, Err, OnErr, IfOk, IfErr, IfSome, IsTrue};
 ghost use Rattle.diff_graph.specs.Cycles.{pick_verdict};
+ghost use Rattle.ask_core.specs.declared.asker.TheConstants.{MAX_NAMES};
 ghost use Rattle.ask_core.specs.declared.picks.TheConstants.{MAX_PICKS};
 ghost use Rattle.ask_core.specs.declared.tree.Tok.TheVariants as token;
 ghost use Rattle.ask_core.specs.Paths.{first_answers};
@@ -21,9 +22,6 @@ use ask_core::{
 use diff_graph::Lit;
 use std::alloc::Global;
 use std::marker::Model;
-
-/// The most names of an asker whose trees are checked.
-pub const MAX_NAMES: u8 = 12;
 
 /// A judge of the tokens of one tree. It keeps the answers of the open path and the open places, and
 /// gives up what it has closed. It is seen as its asker, the open places and its refusal, if any.

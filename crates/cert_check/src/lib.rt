@@ -17,7 +17,8 @@ mod question;
 mod token;
 mod verdict;
 
-pub use checker::{Checker, MAX_NAMES};
+pub use ask_core::MAX_NAMES;
+pub use checker::Checker;
 pub use cycle::Walk;
 pub use laws::tokens_are_taken_one_by_one;
 pub use question::Question;

@@ -1,19 +1,23 @@
 -- Fronts of cycles: how they grow, and which cycles they are fronts of.
-use Rattle.std.proofs.Common.{◌≡◌, ◌≢◌, ℕ, zero, suc, ◌+◌, ◌-◌, ◌*◌, ◌^◌, ◌<◌, ◌≤◌, ◌⊎◌, inl, inr, ⊎_elim, true, false, List, [], ◌∷◌, ◌++◌, length, get_or}
-use Rattle.std.proofs.Common.{take, Option, Some, None, refl, sym, ap, ◌∙◌, arith, subst, append_assoc, length-append}
+use Rattle.std.proofs.Common.{◌≡◌, ◌≢◌, ℕ, zero, suc, ◌+◌, ◌-◌, ◌*◌, ◌^◌, ◌<◌, ◌≤◌, ◌⊎◌, inl, inr, ⊎_elim, true, false}
+use Rattle.std.proofs.Common.{List, [], ◌∷◌, ◌++◌, length, get_or, take, Option, Some, None, refl, sym, ap, ◌∙◌, arith}
+use Rattle.std.proofs.Common.{subst, append_assoc, length-append}
 use Rattle.std.proofs.lemmas.Bool.Decides.{nat_tests}
 use Rattle.std.proofs.lemmas.List.{append-nil, append_cancel_left, get_or_append_left}
 use Rattle.std.proofs.Math.Seq.{take-append_seam, append_snoc}
 use Rattle.std.proofs.lemmas.List.{take-append-le}
-use Rattle.std.proofs.lemmas.Str.Parse.{IsNumeralModel, numerals_by_value, tells_digits, digit_at, digit_from_value, digits_value-take-le}
+use Rattle.std.proofs.lemmas.Str.Parse.{IsNumeralModel, numerals_by_value, tells_digits, digit_at, digit_from_value}
+use Rattle.std.proofs.lemmas.Str.Parse.{digits_value-take-le}
 use Rattle.std.proofs.lemmas.Str.{digit_value_digit}
-use Rattle.std.proofs.lemmas.Fmt.{digits_decimal, digits_value-decimal, decimal-digits_value, decimal_digit, decimal_nonempty, first_decimal}
+use Rattle.std.proofs.lemmas.Fmt.{digits_decimal, digits_value-decimal, decimal-digits_value, decimal_digit}
+use Rattle.std.proofs.lemmas.Fmt.{decimal_nonempty, first_decimal}
 use Rattle.std.specs.List.{prefix_len}
 use Rattle.std.specs.Int.{IsInRange}
 use Rattle.std.specs.Char.{is_ascii_digit, digit_value}
 use Rattle.std.specs.Fmt.{decimal}
 use Rattle.std.specs.Str.Parse.{AllDigits, digits_value, digits_value_after}
-use Rattle.cert_text.specs.Numbers.{AreShort, IsBehindNumber, IsSpellableCycle, PICK_LIMIT, more_numbers_text, numbers_text}
+use Rattle.cert_text.specs.Numbers.{AreShort, IsBehindNumber, IsSpellableCycle, PICK_LIMIT, more_numbers_text}
+use Rattle.cert_text.specs.Numbers.{numbers_text}
 use Rattle.cert_text.specs.Cycles.{IsNoFront, IsShortNumber, cycle_text, numbers_before, number_text}
 use Rattle.ask_core.specs.declared.tree.Tok.{Tok}
 use Rattle.ask_core.specs.declared.tree.Tok.TheVariants as token
@@ -51,19 +55,21 @@ pub numbers_behind :
 numbers_behind [] qs bytes left short h is =
     record { others = qs; count = omega arith; next = subst (λ (b : List ℕ). Next b qs []) is h }
 numbers_behind (n ∷ picks) qs bytes left short h is =
-    let parts = same_number n h.number (44 ∷ (numbers_before picks ++ left)) (more_numbers_text h.others ++ 59 ∷ []) short.0 h.short refl h.behind
-    (sym (append_assoc (decimal n) (44 ∷ numbers_before picks) left) ∙ sym is ∙ h.text) in
+    let parts = same_number n h.number (44 ∷ (numbers_before picks ++ left)) (more_numbers_text h.others ++ 59 ∷ [])
+    short.0 h.short refl h.behind (sym (append_assoc (decimal n) (44 ∷ numbers_before picks) left) ∙ sym is ∙ h.text) in
     let next = next_number 44 h.others (numbers_before picks ++ left) [] comma_is_no_end h.others_short parts.1 in
     let more = numbers_behind picks h.others (numbers_before picks ++ left) left short.1 next.1 refl in
     record { others = more.others; count = omega (arith, more.count, ap length h.is); next = more.next }
 
-numbers_before-push : (ns : List ℕ) (n : ℕ) → numbers_before (ns ++ n ∷ []) ≡ numbers_before ns ++ (decimal n ++ 44 ∷ [])
+numbers_before-push : (ns : List ℕ) (n : ℕ)
+    → numbers_before (ns ++ n ∷ []) ≡ numbers_before ns ++ (decimal n ++ 44 ∷ [])
 numbers_before-push [] n = refl
 numbers_before-push (m ∷ ns) n =
     ap (λ (l : List ℕ). decimal m ++ 44 ∷ l) (numbers_before-push ns n)
     ∙ sym (append_assoc (decimal m) (44 ∷ numbers_before ns) (decimal n ++ 44 ∷ []))
 
-more_numbers_text-push : (ns : List ℕ) (n : ℕ) → more_numbers_text (ns ++ n ∷ []) ≡ 44 ∷ (numbers_before ns ++ decimal n)
+more_numbers_text-push : (ns : List ℕ) (n : ℕ)
+    → more_numbers_text (ns ++ n ∷ []) ≡ 44 ∷ (numbers_before ns ++ decimal n)
 more_numbers_text-push [] n = ap (λ (l : List ℕ). 44 ∷ l) (append-nil (decimal n))
 more_numbers_text-push (m ∷ ns) n =
     ap (λ (l : List ℕ). 44 ∷ (decimal m ++ l)) (more_numbers_text-push ns n)
@@ -87,7 +93,8 @@ with_comma picks n =
     ∙ sym (append_assoc (numbers_before picks) (decimal n) (44 ∷ [])))
 
 -- a cycle is whole with the semicolon behind its last number
-pub with_end : (picks : List ℕ) (n : ℕ) → 120 ∷ numbers_text (picks ++ n ∷ []) ++ 59 ∷ [] ≡ cycle_text picks (Some n) ++ 59 ∷ []
+pub with_end : (picks : List ℕ) (n : ℕ)
+    → 120 ∷ numbers_text (picks ++ n ∷ []) ++ 59 ∷ [] ≡ cycle_text picks (Some n) ++ 59 ∷ []
 with_end picks n = ap (λ (l : List ℕ). 120 ∷ (l ++ 59 ∷ [])) (numbers_text-push picks n)
 
 -- the numeral model of decimal digits
@@ -98,12 +105,14 @@ AllDigits-push : (ds : List ℕ) (b : ℕ) → AllDigits 10 ds → 48 ≤ b → 
 AllDigits-push [] b all low high = (omega (arith, digit_value_digit b (low, high)), tt)
 AllDigits-push (d ∷ ds) b all low high = (all.0, AllDigits-push ds b all.1 low high)
 
-value_after-push : (n : ℕ) (ds : List ℕ) (b : ℕ) → digits_value_after 10 n (ds ++ b ∷ []) ≡ digits_value_after 10 n ds * 10 + digit_value b
+value_after-push : (n : ℕ) (ds : List ℕ) (b : ℕ)
+    → digits_value_after 10 n (ds ++ b ∷ []) ≡ digits_value_after 10 n ds * 10 + digit_value b
 value_after-push n [] b = refl
 value_after-push n (d ∷ ds) b = value_after-push (n * 10 + digit_value d) ds b
 
 -- one more digit
-value-push : (ds : List ℕ) (b : ℕ) → 48 ≤ b → b ≤ 57 → digits_value 10 (ds ++ b ∷ []) ≡ digits_value 10 ds * 10 + (b - 48)
+value-push : (ds : List ℕ) (b : ℕ) → 48 ≤ b → b ≤ 57
+    → digits_value 10 (ds ++ b ∷ []) ≡ digits_value 10 ds * 10 + (b - 48)
 value-push ds b low high = omega (arith, value_after-push 0 ds b, digit_value_digit b (low, high))
 
 -- a number of a few digits, none of them a leading 0, grows by a digit
@@ -115,12 +124,15 @@ decimal-push n b some few low high =
     let value : digits_value 10 (decimal n ++ b ∷ []) ≡ n * 10 + (b - 48) =
     value-push (decimal n) b low high ∙ ap (λ k. k * 10 + (b - 48)) (digits_value-decimal own n big) in
     let there : 0 < length (decimal n) = decimal_nonempty n big in
-    let first : get_or (decimal n ++ b ∷ []) 0 0 ≡ get_or (decimal n) 0 0 = get_or_append_left (decimal n) (b ∷ []) 0 0 there in
+    let first : get_or (decimal n ++ b ∷ []) 0 0 ≡ get_or (decimal n) 0 0 =
+    get_or_append_left (decimal n) (b ∷ []) 0 0 there in
     let large = first_decimal n some big in
     ap decimal (sym value)
-    ∙ decimal-digits_value own (decimal n ++ b ∷ []) all (omega (arith, length-append (decimal n) (b ∷ []))) (λ z. absurd (omega arith)) (omega arith)
+    ∙ decimal-digits_value own (decimal n ++ b ∷ []) all (omega (arith, length-append (decimal n) (b ∷ [])))
+    (λ z. absurd (omega arith)) (omega arith)
 
-prefix_len-more : (ds rest : List ℕ) → AllDigits 10 ds → prefix_len is_ascii_digit (ds ++ rest) ≡ length ds + prefix_len is_ascii_digit rest
+prefix_len-more : (ds rest : List ℕ) → AllDigits 10 ds
+    → prefix_len is_ascii_digit (ds ++ rest) ≡ length ds + prefix_len is_ascii_digit rest
 prefix_len-more [] rest all = omega arith
 prefix_len-more (d ∷ ds) rest all =
     let range = digit_from_value d all.0 in
@@ -150,7 +162,8 @@ digit_goes_on n q b more s short q_short behind low high is =
     let front = prefix_len-more (decimal n) (b ∷ more) (digits_decimal own n big) in
     let rest : prefix_len is_ascii_digit (b ∷ more) ≡ 1 + prefix_len is_ascii_digit more = rw digit refl in
     let longer : length (decimal n) + 1 ≤ length (decimal q) = omega (arith, front, rest, found.count) in
-    let len : length (decimal n ++ b ∷ []) ≡ length (decimal n) + 1 = omega (arith, length-append (decimal n) (b ∷ [])) in
+    let len : length (decimal n ++ b ∷ []) ≡ length (decimal n) + 1 =
+    omega (arith, length-append (decimal n) (b ∷ [])) in
     let taken : take (length (decimal n) + 1) (decimal q) ≡ decimal n ++ b ∷ [] =
     sym (take-append-le (length (decimal n) + 1) (decimal q) s longer)
     ∙ ap (λ (l : List ℕ). take (length (decimal n) + 1) l) (sym is ∙ sym (append_snoc (decimal n) b more))
@@ -166,7 +179,8 @@ digit_goes_on n q b more s short q_short behind low high is =
 -- what stands behind the front of a cycle
 pub cycle_goes_on :
     (picks qs more : List ℕ) (number : Option ℕ) (b : ℕ) → AreShort picks → IsSpellableCycle qs
-    → 120 ∷ numbers_text qs ++ 59 ∷ [] ≡ cycle_text picks number ++ b ∷ more → Behind picks qs (number_text number ++ b ∷ more)
+    → 120 ∷ numbers_text qs ++ 59 ∷ [] ≡ cycle_text picks number ++ b ∷ more
+    → Behind picks qs (number_text number ++ b ∷ more)
 cycle_goes_on picks qs more number b short spellable is =
     let text : numbers_text qs ++ 59 ∷ [] ≡ numbers_before picks ++ (number_text number ++ b ∷ more) =
     (let e : numbers_text qs ++ 59 ∷ [] ≡ (numbers_before picks ++ number_text number) ++ b ∷ more = cc in e)
@@ -183,7 +197,8 @@ digit_next picks qs more b h =
     let some = decimal_nonempty q big in
     let range : IsInRange 48 57 (get_or (decimal q) 0 0) = digit_at (decimal q) 0 (digits_decimal own q big) some in
     let first : b ≡ get_or (decimal q) 0 0 =
-    ap (λ (l : List ℕ). get_or l 0 0) h.next.text ∙ get_or_append_left (decimal q) (more_numbers_text h.next.others ++ 59 ∷ []) 0 0 some in
+    ap (λ (l : List ℕ). get_or l 0 0) h.next.text
+    ∙ get_or_append_left (decimal q) (more_numbers_text h.next.others ++ 59 ∷ []) 0 0 some in
     (rw first range.0, rw first range.1)
 
 -- a number and the comma of a further one leave room for it, or the end follows
@@ -191,19 +206,22 @@ pub no_digit_next :
     (picks qs more : List ℕ) (n b : ℕ) → length qs ≤ 12 → n < PICK_LIMIT → is_ascii_digit b ≡ false
     → Behind picks qs (decimal n ++ b ∷ more) → (b ≡ 59) ⊎ ((b ≡ 44) × (length picks + 1 < 12))
 no_digit_next picks qs more n b few short other h =
-    let parts = same_number n h.next.number (b ∷ more) (more_numbers_text h.next.others ++ 59 ∷ []) short h.next.short other h.next.behind h.next.text in
+    let parts = same_number n h.next.number (b ∷ more) (more_numbers_text h.next.others ++ 59 ∷ []) short h.next.short
+    other h.next.behind h.next.text in
     last_or_more picks qs more b h.others h.next.number h.next.others few h.count h.next.is parts.1
   where
     last_or_more :
         (picks qs more : List ℕ) (b : ℕ) (others : List ℕ) (q : ℕ) (behind : List ℕ) → length qs ≤ 12
-        → length qs ≡ length picks + length others → others ≡ q ∷ behind → b ∷ more ≡ more_numbers_text behind ++ 59 ∷ []
+        → length qs ≡ length picks + length others → others ≡ q ∷ behind
+        → b ∷ more ≡ more_numbers_text behind ++ 59 ∷ []
         → (b ≡ 59) ⊎ ((b ≡ 44) × (length picks + 1 < 12))
     last_or_more picks qs more b others q [] few count is text = inl cc
     last_or_more picks qs more b others q (r ∷ rs) few count is text = inr (cc, omega (arith, ap length is))
 
 -- behind a comma or `x`, no digit
 pub digit_is_wanted :
-    (picks : List ℕ) (number : Option ℕ) (b : ℕ) → AreShort picks → number ≡ None → (48 ≤ b → b ≤ 57 → ⊥) → IsNoFront picks number b
+    (picks : List ℕ) (number : Option ℕ) (b : ℕ) → AreShort picks → number ≡ None → (48 ≤ b → b ≤ 57 → ⊥)
+    → IsNoFront picks number b
 digit_is_wanted picks None b short none other qs more spellable is =
     let range = digit_next picks qs more b (cycle_goes_on picks qs more None b short spellable is) in
     other range.0 range.1
@@ -217,7 +235,8 @@ digit_is_too_much picks None n b short some n_short wrong low high qs more spell
 digit_is_too_much picks (Some m) n b short some n_short wrong low high qs more spellable is =
     let same : m ≡ n = cc in
     let h = cycle_goes_on picks qs more (Some m) b short spellable is in
-    let on = digit_goes_on m h.next.number b more (more_numbers_text h.next.others ++ 59 ∷ []) (omega arith) h.next.short h.next.behind low high h.next.text in
+    let on = digit_goes_on m h.next.number b more (more_numbers_text h.next.others ++ 59 ∷ []) (omega arith)
+    h.next.short h.next.behind low high h.next.text in
     wrong (omega (arith, on.0)) (omega (arith, on.1))
 
 -- behind a digit, a byte that is no digit and neither the comma of a further number nor the end
@@ -264,7 +283,8 @@ pub front_with_more_digits :
     (picks : List ℕ) (number : Option ℕ) (n b : ℕ) → number ≡ Some n → 0 < n → n < 10000 → 48 ≤ b → b ≤ 57
     → cycle_text picks (Some (n * 10 + (b - 48))) ≡ cycle_text picks number ++ b ∷ []
 front_with_more_digits picks number n b some positive few low high =
-    rw (some, decimal-push n b positive few low high) (ap (λ (l : List ℕ). 120 ∷ l) (sym (append_assoc (numbers_before picks) (decimal n) (b ∷ []))))
+    rw (some, decimal-push n b positive few low high)
+    (ap (λ (l : List ℕ). 120 ∷ l) (sym (append_assoc (numbers_before picks) (decimal n) (b ∷ []))))
 
 -- the length of a front with one byte more
 pub one_longer : (len b : ℕ) (text more : List ℕ) → len ≡ length text → more ≡ text ++ b ∷ [] → len + 1 ≡ length more
@@ -277,18 +297,27 @@ pub front_of_cycle :
 front_of_cycle picks None few short number_short =
     let zero_text : decimal 0 ≡ 48 ∷ [] = decimal_digit 0 (omega arith) in
     let text : 120 ∷ numbers_text (picks ++ 0 ∷ []) ++ 59 ∷ [] ≡ cycle_text picks None ++ 48 ∷ 59 ∷ [] =
-    with_end picks 0 ∙ rw (zero_text) (ap (λ (l : List ℕ). 120 ∷ l) (append_assoc (numbers_before picks) (48 ∷ []) (59 ∷ [])
+    with_end picks 0
+    ∙ rw (zero_text) (ap (λ (l : List ℕ). 120 ∷ l) (append_assoc (numbers_before picks) (48 ∷ []) (59 ∷ [])
     ∙ ap (λ (l : List ℕ). l ++ 48 ∷ 59 ∷ []) (sym (append-nil (numbers_before picks))))) in (
       token.Cycle (picks ++ 0 ∷ []),
       48 ∷ 59 ∷ [],
-      (omega (arith, length-append picks (0 ∷ [])), omega (arith, length-append picks (0 ∷ [])), AreShort-push picks 0 short (omega arith)),
+      (
+        omega (arith, length-append picks (0 ∷ [])),
+        omega (arith, length-append picks (0 ∷ [])),
+        AreShort-push picks 0 short (omega arith),
+      ),
       omega arith,
       text,
     )
 front_of_cycle picks (Some n) few short number_short = (
   token.Cycle (picks ++ n ∷ []),
   59 ∷ [],
-  (omega (arith, length-append picks (n ∷ [])), omega (arith, length-append picks (n ∷ [])), AreShort-push picks n short number_short),
+  (
+    omega (arith, length-append picks (n ∷ [])),
+    omega (arith, length-append picks (n ∷ [])),
+    AreShort-push picks n short number_short,
+  ),
   omega arith,
   with_end picks n,
 )

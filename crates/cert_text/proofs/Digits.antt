@@ -1,10 +1,12 @@
 -- Digits at the front of some bytes, and the number that they write.
-use Rattle.std.proofs.Common.{◌≡◌, ℕ, zero, suc, ◌^◌, ◌<◌, ◌≤◌, true, List, [], ◌∷◌, ◌++◌, length, get_or, take, refl, sym, ap, ◌∙◌, arith}
+use Rattle.std.proofs.Common.{◌≡◌, ℕ, zero, suc, ◌^◌, ◌<◌, ◌≤◌, true, List, [], ◌∷◌, ◌++◌, length, get_or, take, refl}
+use Rattle.std.proofs.Common.{sym, ap, ◌∙◌, arith}
 use Rattle.std.proofs.lemmas.Bool.Decides.{nat_tests}
 use Rattle.std.proofs.lemmas.List.{get_or_append_left}
 use Rattle.std.proofs.Math.Seq.{take-append_seam}
 use Rattle.std.proofs.lemmas.Str.Parse.{digit_from_value, IsNumeralModel, numerals_by_value, tells_digits}
-use Rattle.std.proofs.lemmas.Fmt.{digits_decimal, digits_value-decimal, decimal_nonempty, length-decimal-le, first_decimal}
+use Rattle.std.proofs.lemmas.Fmt.{digits_decimal, digits_value-decimal, decimal_nonempty, length-decimal-le}
+use Rattle.std.proofs.lemmas.Fmt.{first_decimal}
 use Rattle.std.specs.List.{prefix_len}
 use Rattle.std.specs.Char.{is_ascii_digit}
 use Rattle.std.specs.Fmt.{decimal}
@@ -12,7 +14,8 @@ use Rattle.std.specs.Str.Parse.{AllDigits, digits_value}
 use Rattle.cert_text.specs.Numbers.{IsBehindNumber, PICK_LIMIT}
 
 -- digits with no digit behind them are the front of digits
-prefix_len-seam : (ds rest : List ℕ) → AllDigits 10 ds → IsBehindNumber rest → prefix_len is_ascii_digit (ds ++ rest) ≡ length ds
+prefix_len-seam : (ds rest : List ℕ) → AllDigits 10 ds → IsBehindNumber rest
+    → prefix_len is_ascii_digit (ds ++ rest) ≡ length ds
 prefix_len-seam [] [] all behind = refl
 prefix_len-seam [] (b ∷ bs) all behind = rw behind refl
 prefix_len-seam (d ∷ ds) rest all behind =
@@ -39,7 +42,8 @@ zero_alone zero small first = length-decimal-le 1 zero (omega arith) (omega arit
 zero_alone (suc n) small first = absurd (omega (arith, first_decimal (suc n) (omega arith) (omega arith)))
 
 -- where the digits of a number stand with no digit behind them, they are found, with the number that they write
-pub found_at : (bs rest : List ℕ) (n : ℕ) → n < PICK_LIMIT → IsBehindNumber rest → bs ≡ decimal n ++ rest → Found bs rest n
+pub found_at : (bs rest : List ℕ) (n : ℕ) → n < PICK_LIMIT → IsBehindNumber rest
+    → bs ≡ decimal n ++ rest → Found bs rest n
 found_at bs rest n small behind is =
     let big : n < 2 ^ 64 = omega arith in
     let all = digits_decimal own n big in
@@ -50,5 +54,6 @@ found_at bs rest n small behind is =
       few = length-decimal-le 5 n (omega arith) small big;
       front = rw is (take-append_seam (decimal n) rest);
       value = digits_value-decimal own n big;
-      first = λ z. zero_alone n small (sym (get_or_append_left (decimal n) rest 0 0 some) ∙ ap (λ l. get_or l 0 0) (sym is) ∙ z);
+      first = λ z. zero_alone n small (sym (get_or_append_left (decimal n) rest 0 0 some)
+          ∙ ap (λ l. get_or l 0 0) (sym is) ∙ z);
     }

@@ -1,7 +1,8 @@
 -- Behind any place any bytes go on with a part, or end there: what they begin with is looked for among the parts that
 -- may stand there.
-use Rattle.std.proofs.Common.{◌≡◌, ◌≢◌, ℕ, ◌+◌, ◌-◌, ◌*◌, ◌<◌, ◌≤◌, eqb, leb, true, false, ◌⊎◌, inl, inr, ⊎_elim, Option, Some, None, Result, Ok, Err, List, []}
-use Rattle.std.proofs.Common.{◌∷◌, ◌++◌, length, get_or, refl, sym, ap, ◌∙◌, arith, subst, length-append, zero, suc}
+use Rattle.std.proofs.Common.{◌≡◌, ◌≢◌, ℕ, ◌+◌, ◌-◌, ◌*◌, ◌<◌, ◌≤◌, eqb, leb, true, false, ◌⊎◌, inl, inr, ⊎_elim}
+use Rattle.std.proofs.Common.{Option, Some, None, Result, Ok, Err, List, [], ◌∷◌, ◌++◌, length, get_or, refl, sym, ap}
+use Rattle.std.proofs.Common.{◌∙◌, arith, subst, length-append, zero, suc}
 use Rattle.std.proofs.lemmas.Bool.Decides.{eqb_tells, leb_tells}
 use Rattle.std.proofs.lemmas.List.{append-nil}
 use Rattle.std.proofs.Math.Seq.{append_snoc}
@@ -18,10 +19,12 @@ use Rattle.cert_text.specs.declared.item.CertError.TheVariants as cert
 use Rattle.cert_text.specs.Cycles.{IsNoFront, IsShortNumber, cycle_text, number_text, numbers_before}
 use Rattle.cert_text.specs.Numbers.{AreShort, IsSpellableCycle, PICK_LIMIT}
 use Rattle.cert_text.specs.Places.{PartPlace, Start, Line, Tree, Finish, Stands, names_of, part_text, place_after}
-use Rattle.cert_text.specs.Reading.{ReaderState, Reading, Refused, EndsThere, HasNoPart, IsFrontOfPart, ReadsParts, ReadsFrom}
+use Rattle.cert_text.specs.Reading.{ReaderState, Reading, Refused, EndsThere, HasNoPart, IsFrontOfPart, ReadsParts}
+use Rattle.cert_text.specs.Reading.{ReadsFrom}
 use Rattle.cert_text.specs.Spelling.{IsSpellable, header_text, token_text}
-use Rattle.cert_text.proofs.CycleLemmas.{AreShort-push, byte_is_wrong, digit_is_too_much, digit_is_wanted, front_of_cycle, front_with_digit}
-use Rattle.cert_text.proofs.CycleLemmas.{front_with_more_digits, other_byte_is_wrong, with_comma, with_end}
+use Rattle.cert_text.proofs.CycleLemmas.{AreShort-push, byte_is_wrong, digit_is_too_much, digit_is_wanted}
+use Rattle.cert_text.proofs.CycleLemmas.{front_of_cycle, front_with_digit, front_with_more_digits, other_byte_is_wrong}
+use Rattle.cert_text.proofs.CycleLemmas.{with_comma, with_end}
 use Rattle.cert_text.proofs.PartLemmas.{end_part, ob_part, start_parts}
 use Rattle.cert_text.proofs.ReadingLemmas.{more_has_no_part, some_text, wrong_byte}
 
@@ -43,7 +46,8 @@ AreApart text bytes = (more : List ℕ) → (text ≡ bytes ++ more → ⊥) × 
 -- the bytes begin with a text, or are a front of it, or neither
 abbrev Compared : List ℕ → List ℕ → Type 0
 Compared text bytes =
-    ((rest : List ℕ) × (bytes ≡ text ++ rest)) ⊎ (((more : List ℕ) × (0 < length more) × (text ≡ bytes ++ more)) ⊎ AreApart text bytes)
+    ((rest : List ℕ) × (bytes ≡ text ++ rest))
+    ⊎ (((more : List ℕ) × (0 < length more) × (text ≡ bytes ++ more)) ⊎ AreApart text bytes)
 
 compared_behind : (a : ℕ) (text bytes : List ℕ) → Compared text bytes → Compared (a ∷ text) (a ∷ bytes)
 compared_behind a text bytes (inl (rest, is)) = inl (rest, ap (λ (l : List ℕ). a ∷ l) is)
@@ -201,17 +205,20 @@ module _ (came : ℕ) (names : List ObName) (branches : ℕ) (some : 0 < branche
 
   -- a byte with which no cycle goes on
   wrong_in_cycle :
-      (picks : List ℕ) (number : Option ℕ) (b : ℕ) (rest : List ℕ) → length picks < 12 → AreShort picks → IsShortNumber number
+      (picks : List ℕ) (number : Option ℕ) (b : ℕ) (rest : List ℕ) → length picks < 12
+      → AreShort picks → IsShortNumber number
       → IsNoFront picks number b → GoesOnOrEnds here offset (cycle_text picks number ++ b ∷ rest)
   wrong_in_cycle picks number b rest few short number_short wrong =
-      refused_at here offset open_here (cycle_text picks number) b rest (cycle_front picks number few short number_short)
+      refused_at here offset open_here (cycle_text picks number) b rest
+      (cycle_front picks number few short number_short)
       (λ p more s is.
       no_cycle_part came names branches some ((numbers_before picks ++ number_text number) ++ b ∷ more)
       (λ qs spellable e. wrong qs more spellable e) p s is)
 
   -- the byte belongs to what came
   moved :
-      (front longer : List ℕ) (b : ℕ) (rest : List ℕ) → longer ≡ front ++ b ∷ [] → GoesOnOrEnds here offset (longer ++ rest)
+      (front longer : List ℕ) (b : ℕ) (rest : List ℕ) → longer ≡ front ++ b ∷ []
+      → GoesOnOrEnds here offset (longer ++ rest)
       → GoesOnOrEnds here offset (front ++ b ∷ rest)
   moved front longer b rest is on =
       subst (GoesOnOrEnds here offset) (ap (λ (l : List ℕ). l ++ rest) is ∙ append_snoc front b rest) on
@@ -240,8 +247,8 @@ module _ (came : ℕ) (names : List ObName) (branches : ℕ) (some : 0 < branche
         ⊎_elim
         (λ (digit : (48 ≤ b) × (b ≤ 57)).
         let small : b - 48 < PICK_LIMIT = omega (arith, digit.1) in
-        moved (cycle_text picks None) (cycle_text picks (Some (b - 48))) b rest (front_with_digit picks None b refl digit.0 digit.1)
-        (on picks (Some (b - 48)) few short small))
+        moved (cycle_text picks None) (cycle_text picks (Some (b - 48))) b rest
+        (front_with_digit picks None b refl digit.0 digit.1) (on picks (Some (b - 48)) few short small))
         (λ (other : 48 ≤ b → b ≤ 57 → ⊥).
         wrong_in_cycle picks None b rest few short tt (digit_is_wanted picks None b short refl other))
         (digit_or_not b)
@@ -268,12 +275,12 @@ module _ (came : ℕ) (names : List ObName) (branches : ℕ) (some : 0 < branche
           (on picks (Some (n * 10 + (b - 48))) few short grown))
           (λ (large : (leb n 9999 ≡ false) × (9999 < n)).
           wrong_byte_came
-          (digit_is_too_much picks (Some n) n b short refl n_short (λ positive small. omega (arith, large.1, small)) low high))
-          (leb_tells n 9999))
+          (digit_is_too_much picks (Some n) n b short refl n_short (λ positive small. omega (arith, large.1, small)) low
+          high)) (leb_tells n 9999))
           (λ (zero_came : (leb 1 n ≡ false) × (n < 1)).
           wrong_byte_came
-          (digit_is_too_much picks (Some n) n b short refl n_short (λ positive small. omega (arith, zero_came.1, positive)) low high))
-          (leb_tells 1 n)
+          (digit_is_too_much picks (Some n) n b short refl n_short
+          (λ positive small. omega (arith, zero_came.1, positive)) low high)) (leb_tells 1 n)
 
       -- a comma, behind which there is room for a further number
       comma_came : (48 ≤ b → b ≤ 57 → ⊥) → b ≡ 44 → Goal
@@ -337,7 +344,8 @@ module _ (came : ℕ) (names : List ObName) (branches : ℕ) (some : 0 < branche
   no_token b bytes no_ask no_holds no_cycle (part.Ob n) more s = absurd s
   no_token b bytes no_ask no_holds no_cycle (part.Tok token.Ask) more s = (λ is. no_ask (cc), λ is. no_ask (cc))
   no_token b bytes no_ask no_holds no_cycle (part.Tok token.Holds) more s = (λ is. no_holds (cc), λ is. no_holds (cc))
-  no_token b bytes no_ask no_holds no_cycle (part.Tok (token.Cycle qs)) more s = (λ is. no_cycle (cc), λ is. no_cycle (cc))
+  no_token b bytes no_ask no_holds no_cycle (part.Tok (token.Cycle qs)) more s =
+      (λ is. no_cycle (cc), λ is. no_cycle (cc))
   no_token b bytes no_ask no_holds no_cycle part.LineEnd more s = absurd (omega (arith, some, s))
   no_token b bytes no_ask no_holds no_cycle part.End more s = absurd s
 
@@ -346,14 +354,17 @@ module _ (came : ℕ) (names : List ObName) (branches : ℕ) (some : 0 < branche
   before_a_token [] = truncated here offset open_here [] (inl refl)
   before_a_token (b ∷ bytes) =
       ⊎_elim
-      (λ (ask : (eqb b 63 ≡ true) × (b ≡ 63)). inl (part.Tok token.Ask, bytes, (some, tt), ap (λ (x : ℕ). x ∷ bytes) ask.1))
+      (λ (ask : (eqb b 63 ≡ true) × (b ≡ 63)).
+      inl (part.Tok token.Ask, bytes, (some, tt), ap (λ (x : ℕ). x ∷ bytes) ask.1))
       (λ (no_ask : (eqb b 63 ≡ false) × (b ≢ 63)).
       ⊎_elim
-      (λ (holds : (eqb b 46 ≡ true) × (b ≡ 46)). inl (part.Tok token.Holds, bytes, (some, tt), ap (λ (x : ℕ). x ∷ bytes) holds.1))
+      (λ (holds : (eqb b 46 ≡ true) × (b ≡ 46)).
+      inl (part.Tok token.Holds, bytes, (some, tt), ap (λ (x : ℕ). x ∷ bytes) holds.1))
       (λ (no_holds : (eqb b 46 ≡ false) × (b ≢ 46)).
       ⊎_elim
       (λ (cycle : (eqb b 120 ≡ true) × (b ≡ 120)).
-      subst (λ (x : ℕ). GoesOnOrEnds here offset (x ∷ bytes)) (sym cycle.1) (in_cycle bytes [] None (omega arith) tt tt))
+      subst (λ (x : ℕ). GoesOnOrEnds here offset (x ∷ bytes)) (sym cycle.1)
+      (in_cycle bytes [] None (omega arith) tt tt))
       (λ (no_cycle : (eqb b 120 ≡ false) × (b ≢ 120)).
       refused here offset open_here (b ∷ bytes) (omega arith) (no_token b bytes no_ask.1 no_holds.1 no_cycle.1))
       (eqb_tells b 120))
@@ -376,7 +387,8 @@ goes_on_or_ends Finish offset (b ∷ bytes) = inr (Err (cert.Trailing offset), (
 
 -- bytes give parts from a place on, and end
 abbrev AreRead : PartPlace → ℕ → List ℕ → Type 0
-AreRead place offset bytes = (items : List Item) × (end : Result (Unit {0}) CertError) × ReadsFrom place offset bytes items end
+AreRead place offset bytes =
+    (items : List Item) × (end : Result (Unit {0}) CertError) × ReadsFrom place offset bytes items end
 
 read_on :
     (place : PartPlace) (offset : ℕ) (bytes : List ℕ)
@@ -389,16 +401,19 @@ read_on place offset bytes later (inl (p, rest, stands, is)) =
     (record { offset = offset; part = p } ∷ on.0, on.1, (refl, stands, (rest, is, on.2)))
 read_on place offset bytes later (inr (end, ends)) = ([], end, ends)
 
-read_within : (room : ℕ) (place : PartPlace) (offset : ℕ) (bytes : List ℕ) → length bytes ≤ room → AreRead place offset bytes
+read_within : (room : ℕ) (place : PartPlace) (offset : ℕ) (bytes : List ℕ) → length bytes ≤ room
+    → AreRead place offset bytes
 read_within zero place offset bytes few =
-    read_on place offset bytes (λ next at rest less. absurd (omega (arith, few, less))) (goes_on_or_ends place offset bytes)
+    read_on place offset bytes (λ next at rest less. absurd (omega (arith, few, less)))
+    (goes_on_or_ends place offset bytes)
 read_within (suc room) place offset bytes few =
     read_on place offset bytes (λ next at rest less. read_within room next at rest (omega (arith, few, less)))
     (goes_on_or_ends place offset bytes)
 
 -- whatever bytes are still to come, they give a reader some parts, and end
 pub all_read :
-    (reader : ReaderState) (bytes : List ℕ) → (items : List Item) × (end : Result (Unit {0}) CertError) × ReadsParts reader bytes items end
+    (reader : ReaderState) (bytes : List ℕ)
+    → (items : List Item) × (end : Result (Unit {0}) CertError) × ReadsParts reader bytes items end
 all_read (Reading place offset begun) bytes =
     read_within (length (begun ++ bytes)) place offset (begun ++ bytes) (omega arith)
 all_read (Refused refusal) bytes = ([], Err refusal, (refl, refl))

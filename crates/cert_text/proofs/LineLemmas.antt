@@ -11,9 +11,11 @@ pub record Begins (line front : List ℕ) (answer : Bool) : Type 0 where
   pub only : (more : List ℕ) → line ≡ front ++ more → answer ≡ true
 
 pub begins : (line front : List ℕ) (answer : Bool) → answer ≡ starts_with nat_eq line front → Begins line front answer
-begins line front answer is = let told = starts_is Decides-eqb line front answer is in record { rest = told.0; only = told.1 }
+begins line front answer is = let told = starts_is Decides-eqb line front answer is in
+    record { rest = told.0; only = told.1 }
 
 -- a line that begins with a front of its length is the front
-pub same_length : (line front : List ℕ) → line ≡ front ++ drop (length front) line → length line ≡ length front → line ≡ front
+pub same_length : (line front : List ℕ) → line ≡ front ++ drop (length front) line
+    → length line ≡ length front → line ≡ front
 same_length line front is len =
     is ∙ ap (λ (l : List ℕ). front ++ l) (drop_all (length front) line (omega arith)) ∙ append-nil front

@@ -1,7 +1,8 @@
 -- The further numbers of a cycle, at the front of some bytes.
 use Rattle.std.proofs.Common.{◌≡◌, ◌≢◌, ℕ, ◌<◌, List, [], ◌∷◌, ◌++◌, refl, ◌∙◌, arith, append_assoc}
 use Rattle.std.specs.Fmt.{decimal}
-use Rattle.cert_text.specs.Numbers.{AreShort, IsBehindNumber, IsSpellableCycle, more_numbers_text, numbers_text, PICK_LIMIT}
+use Rattle.cert_text.specs.Numbers.{AreShort, IsBehindNumber, IsSpellableCycle, more_numbers_text, numbers_text}
+use Rattle.cert_text.specs.Numbers.{PICK_LIMIT}
 
 -- equal lists have equal heads and equal rests
 same_parts : (a b : ℕ) (xs ys : List ℕ) → a ∷ xs ≡ b ∷ ys → (a ≡ b) × (xs ≡ ys)
@@ -43,7 +44,8 @@ next_number b (n ∷ ns) left rest other short is =
 
 -- the first number of a cycle, with the others behind it
 pub first_number :
-    (bytes picks rest : List ℕ) → IsSpellableCycle picks → bytes ≡ numbers_text picks ++ 59 ∷ rest → Next bytes picks rest
+    (bytes picks rest : List ℕ) → IsSpellableCycle picks
+    → bytes ≡ numbers_text picks ++ 59 ∷ rest → Next bytes picks rest
 first_number bytes [] rest spellable is = absurd (omega (arith, spellable.0))
 first_number bytes (n ∷ ns) rest spellable is =
     record {

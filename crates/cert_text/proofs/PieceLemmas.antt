@@ -1,6 +1,7 @@
 -- Pieces of bytes that a reader takes one after another.
-use Rattle.std.proofs.Common.{◌≡◌, ℕ, ◌+◌, ◌≤◌, ◌<◌, ◌↔◌, inr, List, [], ◌∷◌, ◌++◌, length, get_or, take, drop, Option, Some, None, Result, Ok, Err, refl, sym}
-use Rattle.std.proofs.Common.{ap, ◌∙◌, arith, subst, append_assoc, length-append}
+use Rattle.std.proofs.Common.{◌≡◌, ℕ, ◌+◌, ◌≤◌, ◌<◌, ◌↔◌, inr, List, [], ◌∷◌, ◌++◌, length, get_or, take, drop, Option}
+use Rattle.std.proofs.Common.{Some, None, Result, Ok, Err, refl, sym, ap, ◌∙◌, arith, subst, append_assoc}
+use Rattle.std.proofs.Common.{length-append}
 use Rattle.std.proofs.lemmas.List.{append-nil, length-take-le, take_more}
 use Rattle.std.proofs.Math.Seq.{take-length}
 use Rattle.fn_rules.specs.declared.function.Level.{Level}
@@ -37,9 +38,17 @@ through_part :
 through_part place offset p begun [] more stands some text = ap (Reading place offset) (append-nil begun)
 through_part place offset p begun (b ∷ bytes) more stands some text =
     let joined : (begun ++ b ∷ []) ++ bytes ≡ begun ++ b ∷ bytes = append_assoc begun (b ∷ []) bytes in
-    let shorter : part_text place p ≡ ((begun ++ b ∷ []) ++ bytes) ++ more = text ∙ ap (λ (l : List ℕ). l ++ more) (sym joined) in
+    let shorter : part_text place p ≡ ((begun ++ b ∷ []) ++ bytes) ++ more = text
+    ∙ ap (λ (l : List ℕ). l ++ more) (sym joined) in
     let front : IsFrontOfPart place (begun ++ b ∷ []) =
-    inr (p, bytes ++ more, stands, omega (arith, length-append bytes more), shorter ∙ append_assoc (begun ++ b ∷ []) bytes more) in (
+    inr (
+      p,
+      bytes ++ more,
+      stands,
+      omega (arith, length-append bytes more),
+      shorter
+          ∙ append_assoc (begun ++ b ∷ []) bytes more,
+    ) in (
       Reading place offset (begun ++ b ∷ []),
       refl,
       front,
@@ -57,7 +66,13 @@ pub whole_part :
 whole_part place offset taken p piece stands within text =
     let last = last_of (part_text place p) (some_text place p stands) in
     let len : offset + taken ≡ offset + length last.0 + 1 =
-    omega (arith, ap length last.2, ap length text, length-append last.0 (last.1 ∷ []), length-take-le taken piece within) in (
+    omega (
+      arith,
+      ap length last.2,
+      ap length text,
+      length-append last.0 (last.1 ∷ []),
+      length-take-le taken piece within,
+    ) in (
       within,
       (
         last.0,
@@ -71,7 +86,8 @@ whole_part place offset taken p piece stands within text =
 
 -- one byte further
 pub goes_on_more :
-    (was between now : ReaderState) (bytes : List ℕ) (byte : ℕ) → GoesOn was bytes between → Gives between byte (Ok None) now
+    (was between now : ReaderState) (bytes : List ℕ) (byte : ℕ) → GoesOn was bytes between
+    → Gives between byte (Ok None) now
     → IsReaderUnderWay now → GoesOn was (bytes ++ byte ∷ []) now
 goes_on_more was between now [] byte goes gives way =
     (now, subst (λ (p : ReaderState). Gives p byte (Ok None) now) goes gives, way, refl)
@@ -130,16 +146,20 @@ piece_reads was now piece taken (Ok None) g rest items end =
     let all : take taken piece ≡ piece = rw g.0 (take-length piece) in
     subst (λ (l : List ℕ). ReadsParts was (l ++ rest) items end ↔ ReadsParts now rest items end) (sym all)
     (goes_on_reads was now piece g.1 rest items end)
-piece_reads was now piece taken (Ok (Some item)) g rest items end = ends_reads was now piece taken (Ok (Some item)) g rest items end
-piece_reads was now piece taken (Err refusal) g rest items end = ends_reads was now piece taken (Err refusal) g rest items end
+piece_reads was now piece taken (Ok (Some item)) g rest items end =
+    ends_reads was now piece taken (Ok (Some item)) g rest items end
+piece_reads was now piece taken (Err refusal) g rest items end =
+    ends_reads was now piece taken (Err refusal) g rest items end
 
 -- a front of a cycle grows by the next byte
 pub front_grows :
-    (bytes : List ℕ) (i b : ℕ) (text longer : List ℕ) → i < length bytes → get_or bytes i 0 ≡ b → text ≡ 120 ∷ take i bytes
+    (bytes : List ℕ) (i b : ℕ) (text longer : List ℕ) → i < length bytes → get_or bytes i 0 ≡ b
+    → text ≡ 120 ∷ take i bytes
     → longer ≡ text ++ b ∷ [] → longer ≡ 120 ∷ take (i + 1) bytes
 front_grows bytes i b text longer within byte text_is longer_is =
     longer_is ∙ ap (λ (l : List ℕ). l ++ b ∷ []) text_is
-    ∙ ap (λ (l : List ℕ). 120 ∷ l) (subst (λ (x : ℕ). take i bytes ++ x ∷ [] ≡ take (i + 1) bytes) byte (sym (take_more bytes i 0 within)))
+    ∙ ap (λ (l : List ℕ). 120 ∷ l)
+    (subst (λ (x : ℕ). take i bytes ++ x ∷ [] ≡ take (i + 1) bytes) byte (sym (take_more bytes i 0 within)))
 
 -- digits of a number grow by the next byte
 pub digits_grow :
@@ -152,20 +172,23 @@ digits_grow bytes i b text longer within byte text_is longer_is =
 
 -- a whole token ends at a reader that stands between tokens in a tree
 pub token_ends :
-    (tp1 tp2 : List ObName) (at : Stage) (level : Level) (came branches behind offset taken : ℕ) (b : PartFront) (line : List ℕ)
-    (refused : Option CertError) (was : ReaderState) (t : Tok) (piece : List ℕ)
+    (tp1 tp2 : List ObName) (at : Stage) (level : Level) (came branches behind offset taken : ℕ) (b : PartFront)
+    (line : List ℕ) (refused : Option CertError) (was : ReaderState) (t : Tok) (piece : List ℕ)
     → state_at refused (place_of tp1 tp2 at) offset (begun_text b) ≡ was → refused ≡ None
     → at ≡ stage.Tree level came branches → b ≡ begun.Line line → IsSoundFront (place_of tp1 tp2 at) b → 0 < branches
     → behind ≡ open_after branches t → IsSpellable t → taken ≤ length piece → token_text t ≡ take taken piece
     → EndsWithin was piece taken (Ok (Some (record { offset = offset; part = part.Tok t })))
     (state_at refused (place_of tp1 tp2 (stage.Tree level came behind)) (offset + taken) (begun_text b))
-token_ends tp1 tp2 at level came branches behind offset taken b line refused was t piece is none at_is b_is sound some behind_is spellable within text =
+token_ends tp1 tp2 at level came branches behind offset taken b line refused was t piece is none at_is b_is sound some
+    behind_is spellable within text =
     let none_came : line ≡ [] = rw (at_is, b_is) at sound in
     let empty : begun_text b ≡ [] = ap begun_text b_is ∙ none_came in
-    let was_is : Reading (Tree came (drop came (names_of tp1 tp2 level)) branches) offset [] ≡ was = rw (none, at_is, empty) at is in
+    let was_is : Reading (Tree came (drop came (names_of tp1 tp2 level)) branches) offset [] ≡ was =
+    rw (none, at_is, empty) at is in
     subst
     (λ (p : ReaderState). EndsWithin p piece taken (Ok (Some (record { offset = offset; part = part.Tok t })))
     (state_at refused (place_of tp1 tp2 (stage.Tree level came behind)) (offset + taken) (begun_text b)))
     was_is
     (rw (none, empty, behind_is)
-    (whole_part (Tree came (drop came (names_of tp1 tp2 level)) branches) offset taken (part.Tok t) piece (some, spellable) within text))
+    (whole_part (Tree came (drop came (names_of tp1 tp2 level)) branches) offset taken (part.Tok t) piece
+    (some, spellable) within text))

@@ -1,6 +1,7 @@
 -- What a reader gives for a byte is what the bytes from there on give.
-use Rattle.std.proofs.Common.{◌≡◌, ◌≢◌, ℕ, ◌+◌, ◌<◌, ◌⊎◌, ◌↔◌, inl, inr, ⊎_elim, Option, Some, None, Result, Ok, Err, List, [], ◌∷◌, ◌++◌, length, refl, sym}
-use Rattle.std.proofs.Common.{ap, ◌∙◌, arith, subst, append_assoc, length-append}
+use Rattle.std.proofs.Common.{◌≡◌, ◌≢◌, ℕ, ◌+◌, ◌<◌, ◌⊎◌, ◌↔◌, inl, inr, ⊎_elim, Option, Some, None, Result, Ok, Err}
+use Rattle.std.proofs.Common.{List, [], ◌∷◌, ◌++◌, length, refl, sym, ap, ◌∙◌, arith, subst, append_assoc}
+use Rattle.std.proofs.Common.{length-append}
 use Rattle.std.proofs.lemmas.List.{append-nil}
 use Rattle.std.proofs.Math.Seq.{append_snoc}
 use Rattle.ask_core.specs.declared.tree.Tok.{Tok}
@@ -12,7 +13,8 @@ use Rattle.cert_text.specs.declared.item.CertError.{CertError}
 use Rattle.cert_text.specs.declared.item.CertError.TheVariants as cert
 use Rattle.cert_text.specs.Spelling.{token_text}
 use Rattle.cert_text.specs.Places.{PartPlace, Start, Line, Tree, Finish, Stands, part_text, place_after}
-use Rattle.cert_text.specs.Reading.{ReaderState, Reading, Refused, EndsThere, Gives, HasNoPart, IsFrontOfPart, ReadsParts, ReadsFrom, ReadsOn}
+use Rattle.cert_text.specs.Reading.{ReaderState, Reading, Refused, EndsThere, Gives, HasNoPart, IsFrontOfPart}
+use Rattle.cert_text.specs.Reading.{ReadsParts, ReadsFrom, ReadsOn}
 use Rattle.cert_text.proofs.PartLemmas.{end_part, no_front, ob_part, start_parts}
 
 -- of two fronts of the same bytes, one is a front of the other
@@ -35,7 +37,8 @@ not_over place p stands over = subst (λ (l : PartPlace). Stands l p) over stand
 
 -- two parts at the front of the same bytes are the same
 pub same_part :
-    (place : PartPlace) (p q : Part) (r s : List ℕ) → Stands place p → Stands place q → part_text place p ++ r ≡ part_text place q ++ s
+    (place : PartPlace) (p q : Part) (r s : List ℕ) → Stands place p → Stands place q
+    → part_text place p ++ r ≡ part_text place q ++ s
     → (p ≡ q) × (r ≡ s)
 same_part place p q r s a b is =
     ⊎_elim
@@ -48,7 +51,8 @@ same_part place p q r s a b is =
     (fronts (part_text place p) r (part_text place q) s is)
 
 -- where no part goes on so, none does with more bytes
-pub more_has_no_part : (place : PartPlace) (bytes rest : List ℕ) → HasNoPart place bytes → HasNoPart place (bytes ++ rest)
+pub more_has_no_part : (place : PartPlace) (bytes rest : List ℕ) → HasNoPart place bytes
+    → HasNoPart place (bytes ++ rest)
 more_has_no_part place bytes rest none p more stands = (
   λ is. (none p (rest ++ more) stands).0 (is ∙ append_assoc bytes rest more),
   λ is.
@@ -60,12 +64,14 @@ more_has_no_part place bytes rest none p more stands = (
 
 -- where the bytes are a front of a part, no whole part is a front of them
 no_part_inside :
-    (place : PartPlace) (bytes rest : List ℕ) (q : Part) → IsFrontOfPart place bytes → Stands place q → 0 < length (part_text place q)
+    (place : PartPlace) (bytes rest : List ℕ) (q : Part) → IsFrontOfPart place bytes → Stands place q
+    → 0 < length (part_text place q)
     → bytes ≡ part_text place q ++ rest → ⊥
 no_part_inside place bytes rest q (inl none) stands some is =
     omega (arith, ap length (sym is ∙ none), length-append (part_text place q) rest)
 no_part_inside place bytes rest q (inr h) stands some is =
-    let same = no_front place h.0 q (rest ++ h.1) h.2 stands (h.4 ∙ ap (λ (l : List ℕ). l ++ h.1) is ∙ append_assoc (part_text place q) rest h.1) in
+    let same = no_front place h.0 q (rest ++ h.1) h.2 stands (h.4 ∙ ap (λ (l : List ℕ). l ++ h.1) is
+    ∙ append_assoc (part_text place q) rest h.1) in
     omega (arith, h.3, ap length same.1, length-append rest h.1)
 
 -- a token has some bytes
@@ -88,7 +94,8 @@ some_text Finish p stands = absurd stands
 
 -- where a whole part is in front, the bytes do not end there
 part_is_no_end :
-    (place : PartPlace) (offset : ℕ) (bytes rest : List ℕ) (p : Part) (end : Result (Unit {0}) CertError) → Stands place p
+    (place : PartPlace) (offset : ℕ) (bytes rest : List ℕ) (p : Part) (end : Result (Unit {0}) CertError)
+    → Stands place p
     → bytes ≡ part_text place p ++ rest → EndsThere place offset bytes end → ⊥
 part_is_no_end place offset bytes rest p (Ok x) stands is h = not_over place p stands h.0
 part_is_no_end place offset bytes rest p (Err (cert.BadToken at)) stands is h = (h.3 p rest stands).1 is
@@ -103,13 +110,15 @@ same_item a b offsets parts =
 
 -- reading goes on alike behind the same part
 along :
-    (place : PartPlace) (p q : Part) (a b : ℕ) (r s : List ℕ) (items : List Item) (end : Result (Unit {0}) CertError) → p ≡ q → a ≡ b → r ≡ s
+    (place : PartPlace) (p q : Part) (a b : ℕ) (r s : List ℕ) (items : List Item) (end : Result (Unit {0}) CertError)
+    → p ≡ q → a ≡ b → r ≡ s
     → ReadsFrom (place_after place p) a r items end → ReadsFrom (place_after place q) b s items end
 along place p q a b r s items end parts offsets rests h = rw (← parts, ← offsets, ← rests) h
 
 -- after a byte in a token
 reads_more :
-    (place : PartPlace) (offset byte : ℕ) (begun : List ℕ) (now : ReaderState) → now ≡ Reading place offset (begun ++ byte ∷ [])
+    (place : PartPlace) (offset byte : ℕ) (begun : List ℕ) (now : ReaderState)
+    → now ≡ Reading place offset (begun ++ byte ∷ [])
     → (rest : List ℕ) (items : List Item) (end : Result (Unit {0}) CertError)
     → ReadsFrom place offset (begun ++ byte ∷ rest) items end ↔ ReadsParts now rest items end
 reads_more place offset byte begun now is rest items end =
@@ -158,7 +167,8 @@ reads_part place offset byte begun item now g rest (first ∷ items) end =
 
 -- after the byte that no part goes on with
 reads_bad :
-    (place : PartPlace) (offset byte at : ℕ) (begun : List ℕ) → EndsThere place offset (begun ++ byte ∷ []) (Err (cert.BadToken at))
+    (place : PartPlace) (offset byte at : ℕ) (begun : List ℕ)
+    → EndsThere place offset (begun ++ byte ∷ []) (Err (cert.BadToken at))
     → (rest : List ℕ) (items : List Item) (end : Result (Unit {0}) CertError)
     → ReadsFrom place offset (begun ++ byte ∷ rest) items end ↔ ((items ≡ []) × (end ≡ Err (cert.BadToken at)))
 reads_bad place offset byte at begun g rest items end =
@@ -171,28 +181,35 @@ reads_bad place offset byte at begun g rest items end =
     )
   where
     to :
-        (place : PartPlace) (offset at : ℕ) (bytes : List ℕ) (items : List Item) (end : Result (Unit {0}) CertError) → at ≡ offset → place ≢ Finish
-        → 0 < length bytes → HasNoPart place bytes → ReadsFrom place offset bytes items end → (items ≡ []) × (end ≡ Err (cert.BadToken at))
+        (place : PartPlace) (offset at : ℕ) (bytes : List ℕ) (items : List Item) (end : Result (Unit {0}) CertError)
+        → at ≡ offset → place ≢ Finish
+        → 0 < length bytes → HasNoPart place bytes → ReadsFrom place offset bytes items end
+        → (items ≡ []) × (end ≡ Err (cert.BadToken at))
     to place offset at bytes [] (Ok x) is still_open some none h = absurd (still_open h.0)
     to place offset at bytes [] (Err (cert.BadToken k)) is still_open some none h =
         (refl, ap (λ n. Err (cert.BadToken n)) (h.0 ∙ sym is))
     to place offset at bytes [] (Err (cert.Truncated k)) is still_open some none h =
         absurd
         (⊎_elim (λ (e : bytes ≡ []). omega (arith, some, ap length e))
-        (λ (f : (p : Part) × (more : List ℕ) × Stands place p × (0 < length more) × (part_text place p ≡ bytes ++ more)).
+        (λ (f : (p : Part) × (more : List ℕ) × Stands place p × (0 < length more)
+        × (part_text place p ≡ bytes ++ more)).
         (none f.0 f.1 f.2).0 f.4) h.2)
     to place offset at bytes [] (Err (cert.Trailing k)) is still_open some none h = absurd (still_open h.1)
-    to place offset at bytes (first ∷ items) end is still_open some none h = absurd ((none first.part h.2.0 h.1).1 h.2.1)
+    to place offset at bytes (first ∷ items) end is still_open some none h =
+        absurd ((none first.part h.2.0 h.1).1 h.2.1)
 
     from :
-        (place : PartPlace) (offset at : ℕ) (bytes : List ℕ) (items : List Item) (end : Result (Unit {0}) CertError) → at ≡ offset → place ≢ Finish
-        → 0 < length bytes → HasNoPart place bytes → items ≡ [] → end ≡ Err (cert.BadToken at) → ReadsFrom place offset bytes items end
+        (place : PartPlace) (offset at : ℕ) (bytes : List ℕ) (items : List Item) (end : Result (Unit {0}) CertError)
+        → at ≡ offset → place ≢ Finish
+        → 0 < length bytes → HasNoPart place bytes → items ≡ [] → end ≡ Err (cert.BadToken at)
+        → ReadsFrom place offset bytes items end
     from place offset at bytes items end is still_open some none items_are end_is =
         rw (items_are, end_is) (is, still_open, some, none)
 
 -- after a byte behind the last line
 reads_trailing :
-    (place : PartPlace) (offset byte at : ℕ) (begun : List ℕ) → EndsThere place offset (begun ++ byte ∷ []) (Err (cert.Trailing at))
+    (place : PartPlace) (offset byte at : ℕ) (begun : List ℕ)
+    → EndsThere place offset (begun ++ byte ∷ []) (Err (cert.Trailing at))
     → (rest : List ℕ) (items : List Item) (end : Result (Unit {0}) CertError)
     → ReadsFrom place offset (begun ++ byte ∷ rest) items end ↔ ((items ≡ []) × (end ≡ Err (cert.Trailing at)))
 reads_trailing place offset byte at begun g rest items end =
@@ -200,24 +217,28 @@ reads_trailing place offset byte at begun g rest items end =
     (to place offset at (begun ++ byte ∷ rest) items end g.0 g.1 some, λ h. rw (h.0, h.1) (g.0, g.1, some))
   where
     to :
-        (place : PartPlace) (offset at : ℕ) (bytes : List ℕ) (items : List Item) (end : Result (Unit {0}) CertError) → at ≡ offset → place ≡ Finish
+        (place : PartPlace) (offset at : ℕ) (bytes : List ℕ) (items : List Item) (end : Result (Unit {0}) CertError)
+        → at ≡ offset → place ≡ Finish
         → 0 < length bytes → ReadsFrom place offset bytes items end → (items ≡ []) × (end ≡ Err (cert.Trailing at))
     to place offset at bytes [] (Ok x) is over some h = absurd (omega (arith, some, ap length h.1))
     to place offset at bytes [] (Err (cert.BadToken k)) is over some h = absurd (h.1 over)
     to place offset at bytes [] (Err (cert.Truncated k)) is over some h = absurd (h.1 over)
-    to place offset at bytes [] (Err (cert.Trailing k)) is over some h = (refl, ap (λ n. Err (cert.Trailing n)) (h.0 ∙ sym is))
+    to place offset at bytes [] (Err (cert.Trailing k)) is over some h =
+        (refl, ap (λ n. Err (cert.Trailing n)) (h.0 ∙ sym is))
     to place offset at bytes (first ∷ items) end is over some h = absurd (not_over place first.part h.1 over)
 
 -- what a reader gives for a byte, and the bytes behind it, is what they give together
 pub reads_on :
-    (old : ReaderState) (byte : ℕ) (result : Result (Option Item) CertError) (now : ReaderState) → Gives old byte result now
+    (old : ReaderState) (byte : ℕ) (result : Result (Option Item) CertError) (now : ReaderState)
+    → Gives old byte result now
     → (rest : List ℕ) (items : List Item) (end : Result (Unit {0}) CertError)
     → ReadsParts old (byte ∷ rest) items end ↔ ReadsOn result now rest items end
 reads_on (Reading place offset begun) byte (Ok None) now g = reads_more place offset byte begun now g
 reads_on (Reading place offset begun) byte (Ok (Some item)) now g = reads_part place offset byte begun item now g
 reads_on (Reading place offset begun) byte (Err (cert.BadToken at)) now g = reads_bad place offset byte at begun g.1
 reads_on (Reading place offset begun) byte (Err (cert.Truncated at)) now g = absurd g
-reads_on (Reading place offset begun) byte (Err (cert.Trailing at)) now g = reads_trailing place offset byte at begun g.1
+reads_on (Reading place offset begun) byte (Err (cert.Trailing at)) now g =
+    reads_trailing place offset byte at begun g.1
 reads_on (Refused refusal) byte (Ok found) now g = absurd (let e = g.0 in cc)
 reads_on (Refused refusal) byte (Err e) now g =
     λ rest items end.
@@ -228,19 +249,23 @@ reads_on (Refused refusal) byte (Err e) now g =
 pub reads_truncated :
     (place : PartPlace) (offset : ℕ) (begun : List ℕ) → IsFrontOfPart place begun → place ≢ Finish
     → (items : List Item) (end : Result (Unit {0}) CertError)
-    → ReadsFrom place offset (begun ++ []) items end ↔ ((items ≡ []) × (end ≡ Err (cert.Truncated (offset + length begun))))
+    → ReadsFrom place offset (begun ++ []) items end
+    ↔ ((items ≡ []) × (end ≡ Err (cert.Truncated (offset + length begun))))
 reads_truncated place offset begun front still_open items end =
     rw (append-nil begun)
     (to place offset begun items end front still_open, λ h. rw (h.0, h.1) (refl, still_open, front))
   where
     to :
-        (place : PartPlace) (offset : ℕ) (bytes : List ℕ) (items : List Item) (end : Result (Unit {0}) CertError) → IsFrontOfPart place bytes
-        → place ≢ Finish → ReadsFrom place offset bytes items end → (items ≡ []) × (end ≡ Err (cert.Truncated (offset + length bytes)))
+        (place : PartPlace) (offset : ℕ) (bytes : List ℕ) (items : List Item) (end : Result (Unit {0}) CertError)
+        → IsFrontOfPart place bytes
+        → place ≢ Finish → ReadsFrom place offset bytes items end
+        → (items ≡ []) × (end ≡ Err (cert.Truncated (offset + length bytes)))
     to place offset bytes [] (Ok x) front still_open h = absurd (still_open h.0)
     to place offset bytes [] (Err (cert.BadToken k)) front still_open h =
         absurd
         (⊎_elim (λ (e : bytes ≡ []). omega (arith, h.2, ap length e))
-        (λ (f : (p : Part) × (more : List ℕ) × Stands place p × (0 < length more) × (part_text place p ≡ bytes ++ more)).
+        (λ (f : (p : Part) × (more : List ℕ) × Stands place p × (0 < length more)
+        × (part_text place p ≡ bytes ++ more)).
         (h.3 f.0 f.1 f.2).0 f.4) front)
     to place offset bytes [] (Err (cert.Truncated k)) front still_open h = (refl, ap (λ n. Err (cert.Truncated n)) h.0)
     to place offset bytes [] (Err (cert.Trailing k)) front still_open h = absurd (still_open h.1)
@@ -253,7 +278,8 @@ pub reads_whole :
     → ReadsFrom Finish offset [] items end ↔ ((items ≡ []) × (end ≡ Ok tt))
 reads_whole offset items end = (to offset items end, λ h. rw (h.0, h.1) (refl, refl))
   where
-    to : (offset : ℕ) (items : List Item) (end : Result (Unit {0}) CertError) → ReadsFrom Finish offset [] items end → (items ≡ []) × (end ≡ Ok tt)
+    to : (offset : ℕ) (items : List Item) (end : Result (Unit {0}) CertError) → ReadsFrom Finish offset [] items end
+        → (items ≡ []) × (end ≡ Ok tt)
     to offset [] (Ok x) h = (refl, refl)
     to offset [] (Err (cert.BadToken k)) h = absurd (h.1 refl)
     to offset [] (Err (cert.Truncated k)) h = absurd (h.1 refl)
@@ -263,7 +289,8 @@ reads_whole offset items end = (to offset items end, λ h. rw (h.0, h.1) (refl, 
 -- a byte that no part goes on with
 pub wrong_byte :
     (place : PartPlace) (begun : List ℕ) (byte : ℕ) → IsFrontOfPart place begun
-    → ((p : Part) (more : List ℕ) → Stands place p → part_text place p ≡ begun ++ byte ∷ more → ⊥) → HasNoPart place (begun ++ byte ∷ [])
+    → ((p : Part) (more : List ℕ) → Stands place p → part_text place p ≡ begun ++ byte ∷ more → ⊥)
+    → HasNoPart place (begun ++ byte ∷ [])
 wrong_byte place begun byte front wrong p more stands = (
   λ is. wrong p more stands (is ∙ append_snoc begun byte more),
   λ is.
@@ -276,7 +303,8 @@ wrong_byte place begun byte front wrong p more stands = (
 )
   where
     longer :
-        (place : PartPlace) (begun : List ℕ) (byte : ℕ) (p : Part) (m more : List ℕ) → Stands place p → IsFrontOfPart place begun
+        (place : PartPlace) (begun : List ℕ) (byte : ℕ) (p : Part) (m more : List ℕ) → Stands place p
+        → IsFrontOfPart place begun
         → ((p : Part) (more : List ℕ) → Stands place p → part_text place p ≡ begun ++ byte ∷ more → ⊥)
         → part_text place p ≡ begun ++ m → byte ∷ [] ≡ m ++ more → ⊥
     longer place begun byte p [] more stands front wrong text is =

@@ -14,7 +14,8 @@ use Rattle.ask_core.specs.declared.tree.Tok.{Tok}
 use Rattle.ask_core.specs.declared.tree.Tok.TheVariants as token
 use Rattle.cert_text.specs.Numbers.{more_numbers_text}
 use Rattle.cert_text.specs.Spelling.{token_text, tokens_text}
-use Rattle.cert_text.specs.TreeTexts.{with_number, read_on, tokens_read, HasWords, IsTreeText, Written, with_token, tree_at, IsTreeAt}
+use Rattle.cert_text.specs.TreeTexts.{with_number, read_on, tokens_read, HasWords, IsTreeText, Written, with_token}
+use Rattle.cert_text.specs.TreeTexts.{tree_at, IsTreeAt}
 
 -- digits within a cycle are put behind those before them
 read_digits :
@@ -30,7 +31,8 @@ read_digits (d ∷ digits) before rest numbers all =
     ∙ ap (λ (l : List ℕ). read_on (Some (numbers, l)) rest) (append_snoc before d digits))
 
 -- digits are the number that they write
-with_digits : (numbers digits : List ℕ) → 0 < length digits → with_number numbers digits ≡ numbers ++ digits_value 10 digits ∷ []
+with_digits : (numbers digits : List ℕ) → 0 < length digits
+    → with_number numbers digits ≡ numbers ++ digits_value 10 digits ∷ []
 with_digits numbers [] some = absurd (omega arith)
 with_digits numbers (d ∷ digits) some = refl
 
@@ -49,14 +51,16 @@ read_numbers [] numbers n rest small all =
 read_numbers (k ∷ others) numbers n rest small all =
     let text : List ℕ = (decimal k ++ more_numbers_text others) ++ 59 ∷ rest in
     ap (λ (l : List ℕ). read_on (Some (l, [])) text) (with_decimal numbers n (omega (arith, small)))
-    ∙ ap (λ (l : List ℕ). read_on (Some (numbers ++ n ∷ [], [])) l) (append_assoc (decimal k) (more_numbers_text others) (59 ∷ rest))
+    ∙ ap (λ (l : List ℕ). read_on (Some (numbers ++ n ∷ [], [])) l)
+    (append_assoc (decimal k) (more_numbers_text others) (59 ∷ rest))
     ∙ read_digits (decimal k) [] (more_numbers_text others ++ 59 ∷ rest) (numbers ++ n ∷ [])
     (decimal_is_IsNumeral k (omega (arith, all.0))).0.1
     ∙ read_numbers others (numbers ++ n ∷ []) k rest all.0 all.1
     ∙ ap (λ (l : List ℕ). token.Cycle l ∷ read_on None rest) (append_snoc numbers n (k ∷ others))
 
 -- a token is read of its text
-read_token : (tok : Tok) (rest : List ℕ) → HasWords tok → read_on None (token_text tok ++ rest) ≡ tok ∷ read_on None rest
+read_token : (tok : Tok) (rest : List ℕ) → HasWords tok
+    → read_on None (token_text tok ++ rest) ≡ tok ∷ read_on None rest
 read_token token.Ask rest words = refl
 read_token token.Holds rest words = refl
 read_token (token.Cycle []) rest words = refl
@@ -64,7 +68,8 @@ read_token (token.Cycle (n ∷ others)) rest words =
     ap (λ (l : List ℕ). read_on (Some ([], [])) l)
     (append_assoc (decimal n ++ more_numbers_text others) (59 ∷ []) rest
     ∙ append_assoc (decimal n) (more_numbers_text others) (59 ∷ rest))
-    ∙ read_digits (decimal n) [] (more_numbers_text others ++ 59 ∷ rest) [] (decimal_is_IsNumeral n (omega (arith, words.0))).0.1
+    ∙ read_digits (decimal n) [] (more_numbers_text others ++ 59 ∷ rest) []
+    (decimal_is_IsNumeral n (omega (arith, words.0))).0.1
     ∙ read_numbers others [] n rest words.0 words.1
 
 read_tokens :
@@ -77,7 +82,8 @@ read_tokens (tok ∷ tokens) rest all =
     ∙ ap (λ (l : List Tok). tok ∷ l) (read_tokens tokens rest all.1)
 
 words-push :
-    (tokens : List Tok) (tok : Tok) → AllByRecursion HasWords tokens → HasWords tok → AllByRecursion HasWords (tokens ++ tok ∷ [])
+    (tokens : List Tok) (tok : Tok) → AllByRecursion HasWords tokens → HasWords tok
+    → AllByRecursion HasWords (tokens ++ tok ∷ [])
 words-push [] tok all words = (words, tt)
 words-push (t ∷ tokens) tok all words = (all.0, words-push tokens tok all.1 words)
 
@@ -107,17 +113,20 @@ pub IsTreeAt-pushed :
     (start : ℕ) (text new : List ℕ) (tok : Tok) → IsTreeAt start text → HasWords tok → new ≡ text ++ token_text tok
     → IsTreeAt start new
 IsTreeAt-pushed start text new tok h words is =
-    let rest : drop start (text ++ token_text tok) ≡ drop start text ++ token_text tok = drop-append-le start text (token_text tok) h.0 in
+    let rest : drop start (text ++ token_text tok) ≡ drop start text ++ token_text tok =
+    drop-append-le start text (token_text tok) h.0 in
     rw is (
       omega (arith, h.0, length-append text (token_text tok)),
       IsTreeText-pushed (drop start text) (drop start (text ++ token_text tok)) tok h.1 words rest,
     )
 
 pub pushed_token :
-    (start : ℕ) (text new : List ℕ) (tok : Tok) (tree : Written) → IsTreeAt start text → tree_at start text ≡ tree → HasWords tok
+    (start : ℕ) (text new : List ℕ) (tok : Tok) (tree : Written) → IsTreeAt start text
+    → tree_at start text ≡ tree → HasWords tok
     → new ≡ text ++ token_text tok → tree_at start new ≡ with_token tree tok
 pushed_token start text new tok tree h are words is =
-    let rest : drop start (text ++ token_text tok) ≡ drop start text ++ token_text tok = drop-append-le start text (token_text tok) h.0 in
+    let rest : drop start (text ++ token_text tok) ≡ drop start text ++ token_text tok =
+    drop-append-le start text (token_text tok) h.0 in
     ap (λ (l : List ℕ). tree_at start l) is
     ∙ ap (λ (l : List ℕ). record { front = l; tokens = tokens_read (drop start (text ++ token_text tok)) })
     (take-append-le start text (token_text tok) h.0)

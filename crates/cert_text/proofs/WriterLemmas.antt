@@ -7,12 +7,14 @@ use Rattle.cert_text.specs.Numbers.{more_numbers_text}
 
 -- two whole pieces
 pub both_pieces :
-    (before between after text more : List ℕ) → between ≡ before ++ text → after ≡ between ++ more → after ≡ before ++ (text ++ more)
+    (before between after text more : List ℕ) → between ≡ before ++ text → after ≡ between ++ more
+    → after ≡ before ++ (text ++ more)
 both_pieces before between after text more is after_is =
     after_is ∙ ap (λ (l : List ℕ). l ++ more) is ∙ append_assoc before text more
 
 -- further numbers and others behind them
-more_numbers_text-append : (ns ms : List ℕ) → more_numbers_text (ns ++ ms) ≡ more_numbers_text ns ++ more_numbers_text ms
+more_numbers_text-append : (ns ms : List ℕ)
+    → more_numbers_text (ns ++ ms) ≡ more_numbers_text ns ++ more_numbers_text ms
 more_numbers_text-append [] ms = refl
 more_numbers_text-append (n ∷ ns) ms =
     ap (λ (l : List ℕ). 44 ∷ decimal n ++ l) (more_numbers_text-append ns ms)

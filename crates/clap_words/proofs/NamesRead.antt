@@ -13,11 +13,13 @@ pub found_by-refused : (app : App) (words : List (List ℕ)) → fault_of app wo
 unfolding found_by
 found_by-refused app words some = unless_refused-none (fault_of app words) (matches_of app words) some
 
-pub found_by-taken : (app : App) (words : List (List ℕ)) (rows : List Row) → fault_of app words ≡ [] → rows ≡ matches_of app words
+pub found_by-taken : (app : App) (words : List (List ℕ)) (rows : List Row) → fault_of app words ≡ []
+    → rows ≡ matches_of app words
     → Some rows ≡ found_by app words
 unfolding found_by
 found_by-taken app words rows none found =
-    ap (λ (found : List Row). Some found) found ∙ ap (λ (kinds : Kinds). unless_refused kinds (matches_of app words)) (sym none)
+    ap (λ (found : List Row). Some found) found
+    ∙ ap (λ (kinds : Kinds). unless_refused kinds (matches_of app words)) (sym none)
 
 -- where no other kind can come, an error is want of memory
 pub only_memory : (kinds : Kinds) (e : Error) → kinds ≡ [] → HasKind kinds e → kind_of e ≡ OutOfMemory

@@ -1,5 +1,6 @@
 -- What is read from a table that stands for a list.
-use Rattle.std.proofs.Common.{◌≡◌, ℕ, ◌<◌, ◌≤◌, ℤ, true, List, [], ◌∷◌, ◌++◌, length, Option, Some, None, option_map, refl, ap, arith}
+use Rattle.std.proofs.Common.{◌≡◌, ℕ, ◌<◌, ◌≤◌, ℤ, true, List, [], ◌∷◌, ◌++◌, length, Option, Some, None, option_map}
+use Rattle.std.proofs.Common.{refl, ap, arith}
 use Rattle.std.proofs.lemmas.Int.{ints}
 use Rattle.diff_graph.specs.declared.lit.Lit.{Lit}
 use Rattle.diff_tables.specs.declared.hop.Hop.{Hop}
@@ -17,7 +18,8 @@ KeepsModest =
 module _ (n : ℕ) (rows : List (List (Option Hop))) (bounds : AreBounds n rows) where
   -- so do rows in arrays
   pub AreModest-from_bounds : KeepsModest → AreModest rows
-  AreModest-from_bounds modest = modest n (kept_of rows) bounds.list bounds.stands bounds.small (omega (arith, bounds.few))
+  AreModest-from_bounds modest =
+      modest n (kept_of rows) bounds.list bounds.stands bounds.small (omega (arith, bounds.few))
 
   -- there are as many rows as names
   pub IsNamed-from_bounds : (l : Lit) → IsNamed n l → IsNamed (length rows) l
@@ -31,7 +33,8 @@ keeps-from_at_most (Some h) k most = grind (arith, ints)
 -- what is kept is tightest
 pub IsTightest-kept :
     (n : ℕ) (t : ℕ → ℕ → Option Hop) (ps : List Numbered) → StandsFor n t ps
-    → (x y : ℕ) → x < n → y < n → (o : Option Hop) → t x y ≡ o → IsTightest (literals_of ps) x y (option_map (λ h. h.k) o)
+    → (x y : ℕ) → x < n → y < n → (o : Option Hop) → t x y ≡ o
+    → IsTightest (literals_of ps) x y (option_map (λ h. h.k) o)
 IsTightest-kept n t ps stands x y xn yn None is_kept = λ k follows. rw is_kept at (stands.tight x y xn yn k).1 follows
 IsTightest-kept n t ps stands x y xn yn (Some h) is_kept = (
   (stands.tight x y xn yn h.k).0 (rw is_kept (omega (arith, ints))),

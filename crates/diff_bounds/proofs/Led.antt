@@ -1,7 +1,7 @@
 -- Ways through a literal: where that of its first name goes on no lower than what is kept, none does. One that is no
 -- lower than what the row of its end keeps goes on no lower.
-use Rattle.std.proofs.Common.{◌≡◌, ℕ, ◌<◌, pos, ◌+ℤ◌, ◌≤ℤ◌, ◌⊎◌, inl, inr, int_lt, List, [], length, get_or, Option, Some, None}
-use Rattle.std.proofs.Common.{arith, refl, sym, ap, ◌∙◌, subst}
+use Rattle.std.proofs.Common.{◌≡◌, ℕ, ◌<◌, pos, ◌+ℤ◌, ◌≤ℤ◌, ◌⊎◌, inl, inr, int_lt, List, [], length, get_or, Option}
+use Rattle.std.proofs.Common.{Some, None, arith, refl, sym, ap, ◌∙◌, subst}
 use Rattle.std.proofs.lemmas.Bool.{cases_Bool}
 use Rattle.std.proofs.lemmas.Int.{ints}
 use Rattle.diff_graph.specs.declared.lit.Lit.{Lit}
@@ -31,7 +31,8 @@ IsLowered-led ways first from row led high = record {
 module _ (n : ℕ) (t : ℕ → ℕ → Option Hop) (ps : List Numbered) (stands : StandsFor n t ps) where
   -- two offsets that are kept one after the other
   at_most_both :
-      (x y z : ℕ) → x < n → y < n → z < n → (h i : Hop) → t x y ≡ Some h → t y z ≡ Some i → IsAtMost (t x z) (h.k +ℤ i.k)
+      (x y z : ℕ) → x < n → y < n → z < n → (h i : Hop) → t x y ≡ Some h → t y z ≡ Some i
+      → IsAtMost (t x z) (h.k +ℤ i.k)
   at_most_both x y z xn yn zn h i is_h is_i =
       let first : Follows (literals_of ps) x y h.k = (stands.tight x y xn yn h.k).0 (rw is_h (omega (arith, ints))) in
       let second : Follows (literals_of ps) y z i.k = (stands.tight y z yn zn i.k).0 (rw is_i (omega (arith, ints))) in
@@ -45,13 +46,17 @@ module _ (n : ℕ) (t : ℕ → ℕ → Option Hop) (ps : List Numbered) (stands
       → (own : Hop) → own.k ≡ pos 0 → IsNoLower (way_of number l l.x (Some own)) rest led
       → IsNoLower (way_of number l x front) rest kept
   no_lower_between l number x y named xn yn None rest led kept is_front is_rest is_led is_kept own zero high = tt
-  no_lower_between l number x y named xn yn (Some front) None led kept is_front is_rest is_led is_kept own zero high = tt
-  no_lower_between l number x y named xn yn (Some front) (Some rest) None kept is_front is_rest is_led is_kept own zero high = absurd high
-  no_lower_between l number x y named xn yn (Some front) (Some rest) (Some led) None is_front is_rest is_led is_kept own zero high =
-      let most : IsAtMost None (front.k +ℤ led.k) = rw is_kept at (at_most_both x l.x y xn named.0 yn front led is_front is_led) in
+  no_lower_between l number x y named xn yn (Some front) None led kept is_front is_rest is_led is_kept own zero high =
+      tt
+  no_lower_between l number x y named xn yn (Some front) (Some rest) None kept is_front is_rest is_led is_kept
+      own zero high = absurd high
+  no_lower_between l number x y named xn yn (Some front) (Some rest) (Some led) None is_front is_rest
+      is_led is_kept own zero high =
+      let most : IsAtMost None (front.k +ℤ led.k) =
+      rw is_kept at (at_most_both x l.x y xn named.0 yn front led is_front is_led) in
       absurd most
-  no_lower_between l number x y named xn yn (Some front) (Some rest) (Some led) (Some kept) is_front is_rest is_led is_kept own zero
-      high =
+  no_lower_between l number x y named xn yn (Some front) (Some rest) (Some led) (Some kept) is_front is_rest
+      is_led is_kept own zero high =
       let most : kept.k ≤ℤ (front.k +ℤ led.k) =
       rw is_kept at (at_most_both x l.x y xn named.0 yn front led is_front is_led) in
       omega (arith, ints, most, high, zero)
@@ -121,7 +126,8 @@ module _ (n : ℕ) (t : ℕ → ℕ → Option Hop) (ps : List Numbered) (stands
 -- ---- the ways that lead lower than what the row of their end keeps
 module _ (rows : List (List (Option Hop))) (ways left : List (Option Hop)) (from : ℕ) (ps : List Numbered)
     (stands : StandsFor (length rows) (kept_of rows) ps) (square : IsSquare rows) (from_below : from < length rows)
-    (lower : (x : ℕ) → x < length rows → get_or left x None ≡ lower_way (kept_of rows x from) (get_or ways x None)) where
+    (lower : (x : ℕ) → x < length rows → get_or left x None
+    ≡ lower_way (kept_of rows x from) (get_or ways x None)) where
   -- where a way is not left, it goes on no lower
   left_or_high :
       (x y : ℕ) → x < length rows → y < length rows

@@ -1,6 +1,7 @@
 -- Walks along literals: what picks name, and why a negative cycle leaves no values.
-use Rattle.std.proofs.Common.{◌≡◌, ℕ, zero, suc, ◌+◌, ◌<◌, ◌≤◌, ℤ, pos, ◌+ℤ◌, ◌≤ℤ◌, ◌<ℤ◌, true, false, nat_eq, int_lt, List, [], ◌∷◌, length, get_or, drop}
-use Rattle.std.proofs.Common.{Option, Some, None, is_some, option_and_then, slice_get, Ok, Err, arith, refl, sym, ap, ◌∙◌, subst, inl, inr}
+use Rattle.std.proofs.Common.{◌≡◌, ℕ, zero, suc, ◌+◌, ◌<◌, ◌≤◌, ℤ, pos, ◌+ℤ◌, ◌≤ℤ◌, ◌<ℤ◌, true, false, nat_eq, int_lt}
+use Rattle.std.proofs.Common.{List, [], ◌∷◌, length, get_or, drop, Option, Some, None, is_some, option_and_then}
+use Rattle.std.proofs.Common.{slice_get, Ok, Err, arith, refl, sym, ap, ◌∙◌, subst, inl, inr}
 use Rattle.std.proofs.lemmas.Int.{ints}
 use Rattle.std.proofs.lemmas.Bool.{false≢true, cases_lt, cases_Bool, and_parts, eqb-true}
 use Rattle.std.proofs.lemmas.Option.{slice_get_past, slice_get-get_or}
@@ -8,35 +9,42 @@ use Rattle.std.proofs.lemmas.List.{at_drop_more}
 use Rattle.diff_graph.specs.declared.lit.Lit.{Lit}
 use Rattle.diff_graph.specs.declared.lit.PickError.TheVariants.{NotACycle, NotNegative}
 use Rattle.diff_graph.specs.Literals.{Meets, AreMet}
-use Rattle.diff_graph.specs.Cycles.{is_walk, is_closed_walk, weight, picked, literal_at, named_by, cycle_verdict, verdict_of_picked, pick_verdict}
+use Rattle.diff_graph.specs.Cycles.{is_walk, is_closed_walk, weight, picked, literal_at, named_by, cycle_verdict}
+use Rattle.diff_graph.specs.Cycles.{verdict_of_picked, pick_verdict}
 
 -- a pick past the end leaves nothing picked
-pub picked_past : (lits : List Lit) (ns : List ℕ) (i : ℕ) → i < length ns → length lits ≤ get_or ns i 0 → picked lits ns ≡ None
+pub picked_past : (lits : List Lit) (ns : List ℕ) (i : ℕ) → i < length ns
+    → length lits ≤ get_or ns i 0 → picked lits ns ≡ None
 picked_past lits [] i below past = absurd (omega arith)
 picked_past lits (n ∷ ns) zero below past = rw (slice_get_past lits n past)
 picked_past lits (n ∷ ns) (suc i) below past =
     let rest : picked lits ns ≡ None = picked_past lits ns i (omega arith) past in
     by (slice_get lits n) rest
   where
-    by : (o : Option Lit) → picked lits ns ≡ None → option_and_then (λ l. option_and_then (λ ls. Some (l ∷ ls)) (picked lits ns)) o ≡ None
+    by : (o : Option Lit) → picked lits ns ≡ None
+        → option_and_then (λ l. option_and_then (λ ls. Some (l ∷ ls)) (picked lits ns)) o ≡ None
     by None rest = refl
     by (Some l) rest = rw rest
 
 -- picks below the number of literals name the literals at their places
 pub picked_below :
-    (lits : List Lit) (ns : List ℕ) → ((i : ℕ) → i < length ns → get_or ns i 0 < length lits) → picked lits ns ≡ Some (named_by lits ns)
+    (lits : List Lit) (ns : List ℕ) → ((i : ℕ) → i < length ns → get_or ns i 0 < length lits)
+    → picked lits ns ≡ Some (named_by lits ns)
 picked_below lits [] below = refl
 picked_below lits (n ∷ ns) below =
-    let rest : picked lits ns ≡ Some (named_by lits ns) = picked_below lits ns (λ i inside. below (suc i) (omega arith)) in
+    let rest : picked lits ns ≡ Some (named_by lits ns) =
+    picked_below lits ns (λ i inside. below (suc i) (omega arith)) in
     rw (slice_get-get_or lits n (record { x = 0; y = 0; k = pos 0 }) (below 0 (omega arith)), rest)
 
 -- what is picked is named by places below the number of literals
-pub place_below : (lits : List Lit) (ns : List ℕ) → is_some (picked lits ns) ≡ true → (i : ℕ) → i < length ns → get_or ns i 0 < length lits
+pub place_below : (lits : List Lit) (ns : List ℕ) → is_some (picked lits ns) ≡ true → (i : ℕ) → i < length ns
+    → get_or ns i 0 < length lits
 place_below lits ns some i inside = by (picked_past lits ns i inside)
   where
     by : (length lits ≤ get_or ns i 0 → picked lits ns ≡ None) → get_or ns i 0 < length lits
     by past =
-        elim (cases_lt (get_or ns i 0) (length lits)) [ inl lt ↦ lt | inr le ↦ absurd (false≢true (ap is_some (sym (past le)) ∙ some)) ]
+        elim (cases_lt (get_or ns i 0) (length lits))
+        [ inl lt ↦ lt | inr le ↦ absurd (false≢true (ap is_some (sym (past le)) ∙ some)) ]
 
 -- a test on integers, and what it tells
 pub int_lt-true : (a b : ℤ) → int_lt a b ≡ true → a <ℤ b
@@ -52,7 +60,8 @@ pub lt-int_lt : (a b : ℤ) → a <ℤ b → int_lt a b ≡ true
 lt-int_lt a b low = grind (arith, ints)
 
 -- a walk whose literals are met bounds its first name by its last
-pub walk_bounds : (v : ℕ → ℤ) (ls : List Lit) (from to : ℕ) → is_walk from ls to ≡ true → AreMet v ls → v from ≤ℤ (v to +ℤ weight ls)
+pub walk_bounds : (v : ℕ → ℤ) (ls : List Lit) (from to : ℕ) → is_walk from ls to ≡ true → AreMet v ls
+    → v from ≤ℤ (v to +ℤ weight ls)
 walk_bounds v [] from to walk met =
     let same : from ≡ to = eqb-true from to walk in
     rw same (omega (arith, ints))
@@ -97,7 +106,8 @@ negative_verdict ls e low = rw (e, lt-int_lt (weight ls) (pos 0) low)
 
 -- the verdict on picks is that on the literals which they name
 pub pick_verdict-named_by :
-    (lits : List Lit) (ns : List ℕ) → is_some (picked lits ns) ≡ true → pick_verdict lits ns ≡ cycle_verdict (named_by lits ns)
+    (lits : List Lit) (ns : List ℕ) → is_some (picked lits ns) ≡ true
+    → pick_verdict lits ns ≡ cycle_verdict (named_by lits ns)
 pick_verdict-named_by lits ns some = rw (picked_below lits ns (place_below lits ns some))
 
 pub no_values_on_cycle : (v : ℕ → ℤ) (ls : List Lit) → cycle_verdict ls ≡ Ok tt → AreMet v ls → ⊥
@@ -114,11 +124,14 @@ AreMet-at v (l ∷ ls) zero met inside = met.0
 AreMet-at v (l ∷ ls) (suc n) met inside = AreMet-at v ls n met.1 (omega arith)
 
 pub AreMet-named_by :
-    (v : ℕ → ℤ) (lits : List Lit) (ns : List ℕ) → AreMet v lits → ((i : ℕ) → i < length ns → get_or ns i 0 < length lits)
+    (v : ℕ → ℤ) (lits : List Lit) (ns : List ℕ) → AreMet v lits
+    → ((i : ℕ) → i < length ns → get_or ns i 0 < length lits)
     → AreMet v (named_by lits ns)
 AreMet-named_by v lits [] met below = tt
-AreMet-named_by v lits (n ∷ ns) met below =
-    (AreMet-at v lits n met (below 0 (omega arith)), AreMet-named_by v lits ns met (λ i inside. below (suc i) (omega arith)))
+AreMet-named_by v lits (n ∷ ns) met below = (
+  AreMet-at v lits n met (below 0 (omega arith)),
+  AreMet-named_by v lits ns met (λ i inside. below (suc i) (omega arith)),
+)
 
 -- where picks name a negative cycle, no valuation meets all the literals
 pub no_values_on_picks : (v : ℕ → ℤ) (lits : List Lit) (ns : List ℕ) → pick_verdict lits ns ≡ Ok tt → AreMet v lits → ⊥
@@ -136,5 +149,6 @@ no_values_on_picks v lits ns ok met = by (picked lits ns) refl ok
 -- the weight of what is left, one pick on
 pub weight-drop :
     (lits : List Lit) (ns : List ℕ) (i : ℕ) → i < length ns
-    → weight (named_by lits (drop i ns)) ≡ ((literal_at lits (get_or ns i 0)).k +ℤ weight (named_by lits (drop (i + 1) ns)))
+    → weight (named_by lits (drop i ns))
+    ≡ ((literal_at lits (get_or ns i 0)).k +ℤ weight (named_by lits (drop (i + 1) ns)))
 weight-drop lits ns i inside = at_drop_more (λ rest. weight (named_by lits rest)) ns i 0 inside

@@ -1,8 +1,9 @@
 -- Chains of hops. A hop is a function of its pair of names, so the names on a chain differ. Offsets
 -- are lowered only where they are strictly lower: a chain that is kept leads only through pairs that
 -- are kept, and one that is lowered leads through lowered pairs to the new literal, and on through kept ones.
-use Rattle.std.proofs.Common.{◌≡◌, ◌≢◌, ℕ, zero, suc, ◌*◌, ◌<◌, ◌≤◌, ◌==◌, ℤ, pos, negsuc, neg_ℤ, ◌+ℤ◌, ◌-ℤ◌, ◌≤ℤ◌, true, false, eqb, int_lt, List, [], ◌∷◌}
-use Rattle.std.proofs.Common.{◌++◌, length, Option, Some, None, if◌then◌else◌, arith, refl, sym, ap, ◌∙◌, subst, inl, inr}
+use Rattle.std.proofs.Common.{◌≡◌, ◌≢◌, ℕ, zero, suc, ◌*◌, ◌<◌, ◌≤◌, ◌==◌, ℤ, pos, negsuc, neg_ℤ, ◌+ℤ◌, ◌-ℤ◌, ◌≤ℤ◌}
+use Rattle.std.proofs.Common.{true, false, eqb, int_lt, List, [], ◌∷◌, ◌++◌, length, Option, Some, None, if◌then◌else◌}
+use Rattle.std.proofs.Common.{arith, refl, sym, ap, ◌∙◌, subst, inl, inr}
 use Rattle.std.specs.List.{AllByRecursion, list_any, IsDistinct}
 use Rattle.std.proofs.lemmas.Int.{ints}
 use Rattle.std.proofs.lemmas.Bool.{cases_Bool, eq-eqb, ne_eqb, eqb-true, or_cases, false≢true}
@@ -14,7 +15,8 @@ use Rattle.diff_graph.specs.Limits.{IsSmall, AreSmall}
 use Rattle.diff_tables.specs.Tables.{Numbered, literals_of, IsAmong, IsAtMost, Leads}
 use Rattle.diff_tables.specs.Steps.{way_of, joined, lower_of, added}
 use Rattle.diff_graph.proofs.Walks.{int_lt-none, int_lt-false}
-use Rattle.diff_tables.proofs.Closed.{IsClosed, IsAllowed, IsAtMost-weaker, Parts, joined-parts, cases_at_most, round_is_positive, own_hop}
+use Rattle.diff_tables.proofs.Closed.{IsClosed, IsAllowed, IsAtMost-weaker, Parts, joined-parts, cases_at_most}
+use Rattle.diff_tables.proofs.Closed.{round_is_positive, own_hop}
 
 -- a literal of the list stands in a longer list
 pub IsAmong-append : (ps qs : List Numbered) (number : ℕ) (l : Lit) → IsAmong ps number l → IsAmong (ps ++ qs) number l
@@ -23,7 +25,8 @@ IsAmong-append (p ∷ ps) qs number l among =
     elim among [ inl here ↦ inl here | inr there ↦ inr (IsAmong-append ps qs number l there) ]
 
 -- and the last literal stands in the list
-pub IsAmong-last : (ps : List Numbered) (number : ℕ) (l : Lit) → IsAmong (ps ++ record { number = number; lit = l } ∷ []) number l
+pub IsAmong-last : (ps : List Numbered) (number : ℕ) (l : Lit)
+    → IsAmong (ps ++ record { number = number; lit = l } ∷ []) number l
 IsAmong-last [] number l = inl (refl, refl)
 IsAmong-last (p ∷ ps) number l = inr (IsAmong-last ps number l)
 
@@ -60,7 +63,8 @@ module _ (n : ℕ) (t : ℕ → ℕ → Option Hop) (ps : List Numbered) (closed
       rw (leads.1.1) (omega (arith, ints))
 
   -- a chain is as long as its pair of names says
-  pub Leads-determined : (count other x y : ℕ) (k j : ℤ) → Leads t ps count x y k → Leads t ps other x y j → count ≡ other
+  pub Leads-determined : (count other x y : ℕ) (k j : ℤ) → Leads t ps count x y k
+      → Leads t ps other x y j → count ≡ other
   Leads-determined zero zero x y k j leads too = refl
   Leads-determined zero (suc other) x y k j leads too = absurd (too.0 leads.0)
   Leads-determined (suc count) zero x y k j leads too = absurd (leads.0 too.0)
@@ -126,12 +130,14 @@ from_name t ps zero x y k leads q on =
       | inr nowhere ↦ absurd (false≢true nowhere)
     ]
 from_name t ps (suc count) x y k leads q on =
-    elim (or_cases (eqb q x) (list_any (eqb q) (names_on t ps count leads.1.0.second y (k -ℤ leads.1.3.0.k) leads.1.3.4)) on) [
+    elim (or_cases (eqb q x)
+    (list_any (eqb q) (names_on t ps count leads.1.0.second y (k -ℤ leads.1.3.0.k) leads.1.3.4)) on) [
       | inl here ↦
           (let same : q ≡ x = eqb-true q x here in
           rw same (record { left = suc count; no_more = omega arith; offset = k; leads = leads }))
       | inr there ↦
-          (let rest : FromName t ps count q y = from_name t ps count leads.1.0.second y (k -ℤ leads.1.3.0.k) leads.1.3.4 q there in
+          (let rest : FromName t ps count q y =
+          from_name t ps count leads.1.0.second y (k -ℤ leads.1.3.0.k) leads.1.3.4 q there in
           record { left = rest.left; no_more = omega (arith, rest.no_more); offset = rest.offset; leads = rest.leads })
     ]
 
@@ -149,20 +155,24 @@ apart_by x (y ∷ ys) none =
     ]
 
 module _ (n : ℕ) (t : ℕ → ℕ → Option Hop) (ps : List Numbered) (closed : IsClosed n t) where
-  names_differ : (count x y : ℕ) (k : ℤ) (leads : Leads t ps count x y k) → IsDistinct eqb (names_on t ps count x y k leads)
+  names_differ : (count x y : ℕ) (k : ℤ) (leads : Leads t ps count x y k)
+      → IsDistinct eqb (names_on t ps count x y k leads)
   unfolding names_on
   names_differ zero x y k leads = IsDistinct-cons eqb x [] tt nothing_differs
   names_differ (suc count) x y k leads =
       IsDistinct-cons eqb x (names_on t ps count leads.1.0.second y (k -ℤ leads.1.3.0.k) leads.1.3.4)
       (apart_by x _ (λ on.
-      (let again : FromName t ps count x y = from_name t ps count leads.1.0.second y (k -ℤ leads.1.3.0.k) leads.1.3.4 x on in
-      let same : suc count ≡ again.left = Leads-determined n t ps closed (suc count) again.left x y k again.offset leads again.leads in
+      (let again : FromName t ps count x y =
+      from_name t ps count leads.1.0.second y (k -ℤ leads.1.3.0.k) leads.1.3.4 x on in
+      let same : suc count ≡ again.left =
+      Leads-determined n t ps closed (suc count) again.left x y k again.offset leads again.leads in
       absurd (omega (arith, again.no_more)))))
       (names_differ count leads.1.0.second y (k -ℤ leads.1.3.0.k) leads.1.3.4)
 
   -- a chain has fewer literals than there are names
   pub Leads-short :
-      ((x y : ℕ) (h : Hop) → t x y ≡ Some h → (x < n) × (y < n)) → (count x y : ℕ) (k : ℤ) → y < n → Leads t ps count x y k → count < n
+      ((x y : ℕ) (h : Hop) → t x y ≡ Some h → (x < n) × (y < n)) → (count x y : ℕ) (k : ℤ) → y < n
+      → Leads t ps count x y k → count < n
   Leads-short inside count x y k below leads =
       let most : length (names_on t ps count x y k leads) ≤ n =
       length-le_from_distinct_below (names_on t ps count x y k leads) n (names_differ count x y k leads)
@@ -177,7 +187,8 @@ module _ (n : ℕ) (t : ℕ → ℕ → Option Hop) (ps : List Numbered) (closed
           by (suc left) offset leads = (inside q y leads.1.0 leads.1.1).0
 
 -- a literal of a list of small offsets has a small offset
-pub IsSmall-among : (ps : List Numbered) (number : ℕ) (l : Lit) → AreSmall (literals_of ps) → IsAmong ps number l → IsSmall l
+pub IsSmall-among : (ps : List Numbered) (number : ℕ) (l : Lit) → AreSmall (literals_of ps)
+    → IsAmong ps number l → IsSmall l
 IsSmall-among [] number l small among = absurd among
 IsSmall-among (p ∷ ps) number l small among =
     elim among [
@@ -187,7 +198,8 @@ IsSmall-among (p ∷ ps) number l small among =
 
 -- so the offset of a chain is small for each of its literals
 pub Leads-small :
-    (t : ℕ → ℕ → Option Hop) (ps : List Numbered) → AreSmall (literals_of ps) → (count x y : ℕ) (k : ℤ) → Leads t ps count x y k
+    (t : ℕ → ℕ → Option Hop) (ps : List Numbered) → AreSmall (literals_of ps)
+    → (count x y : ℕ) (k : ℤ) → Leads t ps count x y k
     → (neg_ℤ (pos (1001 * count)) ≤ℤ k) × (k ≤ℤ pos (1001 * count))
 Leads-small t ps small zero x y k leads = (let none : k ≡ pos 0 = leads.1 in (omega (arith, ints), omega (arith, ints)))
 Leads-small t ps small (suc count) x y k leads =
@@ -201,7 +213,8 @@ Leads-small t ps small (suc count) x y k leads =
 pub record IsKept (t : ℕ → ℕ → Option Hop) (l : Lit) (x y : ℕ) : Type 0 where
   pub at : (i j : ℤ) → IsAtMost (t x l.x) i → IsAtMost (t l.y y) j → IsAtMost (t x y) (i +ℤ l.k +ℤ j)
 
-module _ (n : ℕ) (t : ℕ → ℕ → Option Hop) (ps : List Numbered) (closed : IsClosed n t) (kept : AreKept n t ps) (number : ℕ) (l : Lit)
+module _ (n : ℕ) (t : ℕ → ℕ → Option Hop) (ps : List Numbered) (closed : IsClosed n t)
+    (kept : AreKept n t ps) (number : ℕ) (l : Lit)
     (x_below : l.x < n) (y_below : l.y < n) (allowed : IsAllowed t l) where
   added-kept : (x y : ℕ) → IsKept t l x y → added t number l x y ≡ t x y
   added-kept x y stays = lower_of-same (t x y) (joined (way_of number l x (t x l.x)) (t l.y y)) (λ k most.
@@ -225,10 +238,12 @@ module _ (n : ℕ) (t : ℕ → ℕ → Option Hop) (ps : List Numbered) (closed
       let step : IsAtMost (t x h.second) m.k =
       subst (λ (z : ℕ). IsAtMost (t x z) m.k) to
       (subst (λ (z : ℕ). IsAtMost (t z m.y) m.k) from (kept.at_most h.number m leads.1.3.1)) in
-      let rest : IsAtMost (t h.second y) (k -ℤ m.k) = Leads-at_most n t ps closed count h.second y (k -ℤ m.k) yn leads.1.3.4 in
+      let rest : IsAtMost (t h.second y) (k -ℤ m.k) =
+      Leads-at_most n t ps closed count h.second y (k -ℤ m.k) yn leads.1.3.4 in
       let stays' : IsKept t l h.second y = record {
         at = λ i j front back.
-            (let through : IsAtMost (t x l.x) (m.k +ℤ i) = closed.along x h.second l.x xn second_below x_below m.k i step front in
+            (let through : IsAtMost (t x l.x) (m.k +ℤ i) =
+            closed.along x h.second l.x xn second_below x_below m.k i step front in
             let whole : IsAtMost (t x y) (m.k +ℤ i +ℤ l.k +ℤ j) = stays.at (m.k +ℤ i) j through back in
             let least : h.k ≤ℤ (m.k +ℤ i +ℤ l.k +ℤ j) = rw is_kept at whole in
             IsAtMost-weaker (t h.second y) (k -ℤ m.k) (i +ℤ l.k +ℤ j) rest (omega (arith, ints)));
@@ -249,7 +264,8 @@ module _ (n : ℕ) (t : ℕ → ℕ → Option Hop) (ps : List Numbered) (closed
       )
 
   -- the way through the literal and back to its start is no lower than 0
-  apart : (x y : ℕ) (f g : Hop) → x < n → t x l.x ≡ Some f → t l.y y ≡ Some g → (IsAtMost (t x y) (f.k +ℤ l.k +ℤ g.k) → ⊥) → x ≢ y
+  apart : (x y : ℕ) (f g : Hop) → x < n → t x l.x ≡ Some f → t l.y y ≡ Some g
+      → (IsAtMost (t x y) (f.k +ℤ l.k +ℤ g.k) → ⊥) → x ≢ y
   apart x y f g xn front back lower same =
       let back' : t l.y x ≡ Some g = rw same back in
       let round : pos 0 ≤ℤ (f.k +ℤ l.k +ℤ g.k) =
@@ -281,7 +297,8 @@ module _ (n : ℕ) (t : ℕ → ℕ → Option Hop) (ps : List Numbered) (closed
   pub Leads-lowered :
       (before after x y : ℕ) (f g : Hop) → x < n → y < n → t x l.x ≡ Some f → t l.y y ≡ Some g
       → (IsAtMost (t x y) (f.k +ℤ l.k +ℤ g.k) → ⊥) → Leads t ps before x l.x f.k → Leads t ps after l.y y g.k
-      → Leads (added t number l) (ps ++ record { number = number; lit = l } ∷ []) (count_through before after) x y (f.k +ℤ l.k +ℤ g.k)
+      → Leads (added t number l) (ps ++ record { number = number; lit = l } ∷ [])
+      (count_through before after) x y (f.k +ℤ l.k +ℤ g.k)
   unfolding lowered_hop count_through
   Leads-lowered zero after x y f g xn yn front back lower to_start on =
       let same : x ≡ l.x = to_start.0 in
@@ -305,8 +322,8 @@ module _ (n : ℕ) (t : ℕ → ℕ → Option Hop) (ps : List Numbered) (closed
             IsAmong-last ps number l,
             sym same,
             refl,
-            subst (λ (k : ℤ). Leads (added t number l) (ps ++ record { number = number; lit = l } ∷ []) after l.y y k) rest
-                (Leads-kept after l.y y g.k y_below yn on_kept on),
+            subst (λ (k : ℤ). Leads (added t number l) (ps ++ record { number = number; lit = l } ∷ []) after l.y y k)
+                rest (Leads-kept after l.y y g.k y_below yn on_kept on),
           ),
         ),
       )
@@ -320,7 +337,8 @@ module _ (n : ℕ) (t : ℕ → ℕ → Option Hop) (ps : List Numbered) (closed
       let is_h : added t number l x y ≡ Some h = added-lowered x y f g front back lower ∙ rw (test, same) refl in
       let from : m.x ≡ x = to_start.1.3.2 in
       let to : m.y ≡ first.second = to_start.1.3.3 in
-      let second_below : first.second < n = (let b : m.y < n = kept.second_below first.number m to_start.1.3.1 in omega arith) in
+      let second_below : first.second < n =
+      (let b : m.y < n = kept.second_below first.number m to_start.1.3.1 in omega arith) in
       let step : IsAtMost (t x first.second) m.k =
       subst (λ (z : ℕ). IsAtMost (t x z) m.k) to
       (subst (λ (z : ℕ). IsAtMost (t z m.y) m.k) from (kept.at_most first.number m to_start.1.3.1)) in
@@ -360,13 +378,15 @@ module _ (n : ℕ) (t : ℕ → ℕ → Option Hop) (ps : List Numbered) (closed
   -- so chains stay chains
   pub chains-added :
       ((x y : ℕ) (h : Hop) → t x y ≡ Some h → (x < n) × (y < n))
-      → ((x y : ℕ) (h : Hop) → t x y ≡ Some h → (count : ℕ) × Leads t ps count x y h.k) → (x y : ℕ) (h : Hop) → x < n → y < n
+      → ((x y : ℕ) (h : Hop) → t x y ≡ Some h → (count : ℕ) × Leads t ps count x y h.k)
+      → (x y : ℕ) (h : Hop) → x < n → y < n
       → added t number l x y ≡ Some h
       → (count : ℕ) × Leads (added t number l) (ps ++ record { number = number; lit = l } ∷ []) count x y h.k
   unfolding lowered_hop
   chains-added inside chains x y h xn yn is_h = by (t x l.x) (t l.y y) refl refl
     where
-      stays : IsKept t l x y → (count : ℕ) × Leads (added t number l) (ps ++ record { number = number; lit = l } ∷ []) count x y h.k
+      stays : IsKept t l x y
+          → (count : ℕ) × Leads (added t number l) (ps ++ record { number = number; lit = l } ∷ []) count x y h.k
       stays kept' =
           let chain = chains x y h (sym (added-kept x y kept') ∙ is_h) in
           (chain.0, Leads-kept chain.0 x y h.k xn yn kept' chain.1)
@@ -375,8 +395,10 @@ module _ (n : ℕ) (t : ℕ → ℕ → Option Hop) (ps : List Numbered) (closed
       by :
           (front back : Option Hop) → t x l.x ≡ front → t l.y y ≡ back
           → (count : ℕ) × Leads (added t number l) (ps ++ record { number = number; lit = l } ∷ []) count x y h.k
-      by None back front_is back_is = stays (record { at = λ i j front' back'. absurd (let none : ⊥ = rw front_is at front' in none) })
-      by (Some f) None front_is back_is = stays (record { at = λ i j front' back'. absurd (let none : ⊥ = rw back_is at back' in none) })
+      by None back front_is back_is =
+          stays (record { at = λ i j front' back'. absurd (let none : ⊥ = rw front_is at front' in none) })
+      by (Some f) None front_is back_is =
+          stays (record { at = λ i j front' back'. absurd (let none : ⊥ = rw back_is at back' in none) })
       by (Some f) (Some g) front_is back_is =
           elim (cases_at_most (t x y) (f.k +ℤ l.k +ℤ g.k)) [
             | inl most ↦ stays (record {
@@ -389,7 +411,8 @@ module _ (n : ℕ) (t : ℕ → ℕ → Option Hop) (ps : List Numbered) (closed
                 (let before = chains x l.x f front_is in
                 let after = chains l.y y g back_is in
                 let same : h ≡ lowered_hop x f g =
-                (let e : Some h ≡ Some (lowered_hop x f g) = sym is_h ∙ added-lowered x y f g front_is back_is lower in cc) in
+                (let e : Some h ≡ Some (lowered_hop x f g) = sym is_h
+                ∙ added-lowered x y f g front_is back_is lower in cc) in
                 let offset : h.k ≡ f.k +ℤ l.k +ℤ g.k = ap (λ (z : Hop). z.k) same in (
                   count_through before.0 after.0,
                   subst (λ (k : ℤ). Leads (added t number l) (ps ++ record { number = number; lit = l } ∷ [])

@@ -1,6 +1,7 @@
 -- Closed tables: adding a literal keeps a table closed, and a closed table has values. Together they
 -- say that a closed table keeps the least offset of each pair, with no word on chains.
-use Rattle.std.proofs.Common.{◌≡◌, ◌⊎◌, ℕ, zero, suc, ◌<◌, ℤ, pos, negsuc, ◌+ℤ◌, ◌-ℤ◌, ◌≤ℤ◌, ◌<ℤ◌, int_lt, Option, Some, None, arith, refl, subst, inl, inr}
+use Rattle.std.proofs.Common.{◌≡◌, ◌⊎◌, ℕ, zero, suc, ◌<◌, ℤ, pos, negsuc, ◌+ℤ◌, ◌-ℤ◌, ◌≤ℤ◌, ◌<ℤ◌, int_lt, Option, Some}
+use Rattle.std.proofs.Common.{None, arith, refl, subst, inl, inr}
 use Rattle.std.proofs.lemmas.Int.{ints}
 use Rattle.std.proofs.lemmas.Bool.{cases_Bool, cases_eq}
 use Rattle.diff_graph.specs.declared.lit.Lit.{Lit}
@@ -16,7 +17,8 @@ pub record IsWithin (n : ℕ) (t : ℕ → ℕ → Option Hop) (v : ℕ → ℤ)
 
 -- offsets add up along two pairs, and a name is at 0 to itself
 pub record IsClosed (n : ℕ) (t : ℕ → ℕ → Option Hop) : Type 0 where
-  pub along : (x y z : ℕ) → x < n → y < n → z < n → (i j : ℤ) → IsAtMost (t x y) i → IsAtMost (t y z) j → IsAtMost (t x z) (i +ℤ j)
+  pub along : (x y z : ℕ) → x < n → y < n → z < n → (i j : ℤ) → IsAtMost (t x y) i → IsAtMost (t y z) j
+      → IsAtMost (t x z) (i +ℤ j)
   pub own : (x : ℕ) → x < n → IsAtMost (t x x) (pos 0)
   pub own_least : (x : ℕ) → x < n → (k : ℤ) → IsAtMost (t x x) k → pos 0 ≤ℤ k
 
@@ -59,7 +61,8 @@ lower_of-either (Some h) (Some g) k most =
 
 -- an offset through the literal is at most k where its two parts leave room
 pub joined-at_most :
-    (number : ℕ) (l : Lit) (x : ℕ) (front rest : Option Hop) (i j k : ℤ) → IsAtMost front i → IsAtMost rest j → (i +ℤ l.k +ℤ j) ≤ℤ k
+    (number : ℕ) (l : Lit) (x : ℕ) (front rest : Option Hop) (i j k : ℤ) → IsAtMost front i
+    → IsAtMost rest j → (i +ℤ l.k +ℤ j) ≤ℤ k
     → IsAtMost (joined (way_of number l x front) rest) k
 joined-at_most number l x None rest i j k front_most rest_most room = absurd front_most
 joined-at_most number l x (Some f) None i j k front_most rest_most room = absurd rest_most
@@ -75,7 +78,8 @@ pub record Parts (l : Lit) (front rest : Option Hop) (k : ℤ) : Type 0 where
 
 -- an offset that goes by the literal is made of an offset to it and one from it
 pub joined-parts :
-    (number : ℕ) (l : Lit) (x : ℕ) (front rest : Option Hop) (k : ℤ) → IsAtMost (joined (way_of number l x front) rest) k
+    (number : ℕ) (l : Lit) (x : ℕ) (front rest : Option Hop) (k : ℤ)
+    → IsAtMost (joined (way_of number l x front) rest) k
     → Parts l front rest k
 joined-parts number l x None rest k most = absurd most
 joined-parts number l x (Some f) None k most = absurd most
@@ -89,7 +93,8 @@ joined-parts number l x (Some f) (Some g) k most = record {
 
 module _ (n : ℕ) (t : ℕ → ℕ → Option Hop) (number : ℕ) (l : Lit) where
   -- an offset of the new table is an old one, or leads through the literal
-  pub added-cases : (x y : ℕ) (k : ℤ) → IsAtMost (added t number l x y) k → IsAtMost (t x y) k ⊎ Parts l (t x l.x) (t l.y y) k
+  pub added-cases : (x y : ℕ) (k : ℤ) → IsAtMost (added t number l x y) k
+      → IsAtMost (t x y) k ⊎ Parts l (t x l.x) (t l.y y) k
   added-cases x y k most =
       elim (lower_of-either (t x y) (joined (way_of number l x (t x l.x)) (t l.y y)) k most) [
         | inl old ↦ inl old
@@ -100,15 +105,18 @@ module _ (n : ℕ) (t : ℕ → ℕ → Option Hop) (number : ℕ) (l : Lit) whe
   added-old x y k most = lower_of-old (t x y) (joined (way_of number l x (t x l.x)) (t l.y y)) k most
 
   pub added-new :
-      (x y : ℕ) (i j k : ℤ) → IsAtMost (t x l.x) i → IsAtMost (t l.y y) j → (i +ℤ l.k +ℤ j) ≤ℤ k → IsAtMost (added t number l x y) k
+      (x y : ℕ) (i j k : ℤ) → IsAtMost (t x l.x) i → IsAtMost (t l.y y) j → (i +ℤ l.k +ℤ j) ≤ℤ k
+      → IsAtMost (added t number l x y) k
   added-new x y i j k front rest room =
       lower_of-new (t x y) (joined (way_of number l x (t x l.x)) (t l.y y)) k
       (joined-at_most number l x (t x l.x) (t l.y y) i j k front rest room)
 
-module _ (n : ℕ) (t : ℕ → ℕ → Option Hop) (closed : IsClosed n t) (number : ℕ) (l : Lit) (x_below : l.x < n) (y_below : l.y < n)
+module _ (n : ℕ) (t : ℕ → ℕ → Option Hop) (closed : IsClosed n t) (number : ℕ) (l : Lit)
+    (x_below : l.x < n) (y_below : l.y < n)
     (allowed : IsAllowed t l) where
   -- the way round the literal is never negative
-  pub round_is_positive : (x : ℕ) → x < n → (i j : ℤ) → IsAtMost (t x l.x) i → IsAtMost (t l.y x) j → pos 0 ≤ℤ (i +ℤ l.k +ℤ j)
+  pub round_is_positive : (x : ℕ) → x < n → (i j : ℤ) → IsAtMost (t x l.x) i → IsAtMost (t l.y x) j
+      → pos 0 ≤ℤ (i +ℤ l.k +ℤ j)
   round_is_positive x below i j front rest =
       let round : IsAtMost (t l.y l.x) (j +ℤ i) = closed.along l.y x l.x y_below below x_below j i rest front in
       let least : pos 0 ≤ℤ (j +ℤ i +ℤ l.k) = allowed (j +ℤ i) round in
@@ -116,7 +124,8 @@ module _ (n : ℕ) (t : ℕ → ℕ → Option Hop) (closed : IsClosed n t) (num
 
   -- offsets one after the other join in the new table, by the literal or without it
   added-along :
-      (x y z : ℕ) → x < n → y < n → z < n → (i j : ℤ) → IsAtMost (added t number l x y) i → IsAtMost (added t number l y z) j
+      (x y z : ℕ) → x < n → y < n → z < n → (i j : ℤ) → IsAtMost (added t number l x y) i
+      → IsAtMost (added t number l y z) j
       → IsAtMost (added t number l x z) (i +ℤ j)
   added-along x y z xn yn zn i j first onward =
       elim (added-cases n t number l x y i first) [
@@ -178,7 +187,8 @@ IsWithin-added n t number l v x_below y_below within met = record {
 }
 
 pub IsWithin-from_added :
-    (n : ℕ) (t : ℕ → ℕ → Option Hop) (number : ℕ) (l : Lit) (v : ℕ → ℤ) → IsWithin n (added t number l) v → IsWithin n t v
+    (n : ℕ) (t : ℕ → ℕ → Option Hop) (number : ℕ) (l : Lit) (v : ℕ → ℤ)
+    → IsWithin n (added t number l) v → IsWithin n t v
 IsWithin-from_added n t number l v within = record {
   at = λ x y xn yn k most. within.at x y xn yn k (added-old n t number l x y k most);
 }
@@ -188,7 +198,8 @@ pub Meets-from_added :
     → IsWithin n (added t number l) v → Meets v l
 Meets-from_added n t closed number l v x_below y_below within =
     within.at l.x l.y x_below y_below l.k
-    (added-new n t number l l.x l.y (pos 0) (pos 0) l.k (closed.own l.x x_below) (closed.own l.y y_below) (omega (arith, ints)))
+    (added-new n t number l l.x l.y (pos 0) (pos 0) l.k (closed.own l.x x_below)
+    (closed.own l.y y_below) (omega (arith, ints)))
 
 lower_by-le : (low : ℤ) (o : Option Hop) → lower_by low o ≤ℤ low
 lower_by-le low None = omega (arith, ints)
@@ -270,7 +281,8 @@ IsWithin-value_in n t closed = record {
 }
 
 -- a valuation may be shifted
-pub IsWithin-shifted : (n : ℕ) (t : ℕ → ℕ → Option Hop) (v : ℕ → ℤ) (by : ℤ) → IsWithin n t v → IsWithin n t (λ x. v x -ℤ by)
+pub IsWithin-shifted : (n : ℕ) (t : ℕ → ℕ → Option Hop) (v : ℕ → ℤ) (by : ℤ) → IsWithin n t v
+    → IsWithin n t (λ x. v x -ℤ by)
 IsWithin-shifted n t v by within = record {
   at = λ x y xn yn k most. let same : v x ≤ℤ (v y +ℤ k) = within.at x y xn yn k most in omega (arith, ints);
 }
@@ -314,10 +326,12 @@ at_most-from_within n t closed x y xn yn k follows =
         ]
 
 -- what is kept for a name and itself
-pub own_hop : (n : ℕ) (t : ℕ → ℕ → Option Hop) → IsClosed n t → (x : ℕ) → x < n → (h : Hop) × (t x x ≡ Some h) × (h.k ≡ pos 0)
+pub own_hop : (n : ℕ) (t : ℕ → ℕ → Option Hop) → IsClosed n t → (x : ℕ) → x < n
+    → (h : Hop) × (t x x ≡ Some h) × (h.k ≡ pos 0)
 own_hop n t closed x below = by (t x x) (closed.own x below) (closed.own_least x below)
   where
-    by : (o : Option Hop) → IsAtMost o (pos 0) → ((k : ℤ) → IsAtMost o k → pos 0 ≤ℤ k) → (h : Hop) × (o ≡ Some h) × (h.k ≡ pos 0)
+    by : (o : Option Hop) → IsAtMost o (pos 0) → ((k : ℤ) → IsAtMost o k → pos 0 ≤ℤ k)
+        → (h : Hop) × (o ≡ Some h) × (h.k ≡ pos 0)
     by None most least = absurd most
     by (Some h) most least =
         let high : h.k ≤ℤ pos 0 = most in

@@ -1,6 +1,7 @@
 -- Least values: what a table keeps from name 0, and floors as literals.
-use Rattle.std.proofs.Common.{◌≡◌, ℕ, zero, suc, ◌+◌, ◌<◌, ◌≤◌, ℤ, pos, negsuc, ◌+ℤ◌, ◌-ℤ◌, ◌≤ℤ◌, false, List, [], ◌∷◌, ◌++◌, length, take, get_or, Option}
-use Rattle.std.proofs.Common.{Some, None, arith, refl, sym, ap, ◌∙◌, subst, inl, inr}
+use Rattle.std.proofs.Common.{◌≡◌, ℕ, zero, suc, ◌+◌, ◌<◌, ◌≤◌, ℤ, pos, negsuc, ◌+ℤ◌, ◌-ℤ◌, ◌≤ℤ◌, false, List, [], ◌∷◌}
+use Rattle.std.proofs.Common.{◌++◌, length, take, get_or, Option, Some, None, arith, refl, sym, ap, ◌∙◌, subst, inl}
+use Rattle.std.proofs.Common.{inr}
 use Rattle.std.specs.List.{AllByRecursion}
 use Rattle.std.proofs.lemmas.Int.{ints}
 use Rattle.std.proofs.lemmas.List.{take_more, length-take-le, map-append}
@@ -11,11 +12,13 @@ use Rattle.diff_graph.specs.Cycles.{literal_at}
 use Rattle.diff_graph.specs.Limits.{IsNamed, AreNamed, AreSmall}
 use Rattle.diff_tables.specs.Tables.{Numbered, literals_of, numbered_from, IsAtMost, StandsFor, kept_of}
 use Rattle.diff_tables.specs.Steps.{leaves_room, AreNewRows}
-use Rattle.diff_tables.specs.Solutions.{valuation_of, MeetsFloors, AreLeast, AreFloors, floors_from, least_of, AreLeastMeeting, HasLiteral, IsBoundedBelow}
+use Rattle.diff_tables.specs.Solutions.{valuation_of, MeetsFloors, AreLeast, AreFloors, floors_from, least_of}
+use Rattle.diff_tables.specs.Solutions.{AreLeastMeeting, HasLiteral, IsBoundedBelow}
 use Rattle.diff_tables.proofs.Closed.{IsClosed}
-use Rattle.diff_tables.proofs.Stands.{IsClosed-from_stands, IsWithin-from_met, AreMet-from_within, allowed-from_possible, back-from_no_room}
-use Rattle.diff_tables.proofs.Stands.{not_allowed-from_back}
-use Rattle.diff_tables.proofs.AddingSteps.{StandsFor-new_rows, literals_of-numbered_from, All-at, All-take, All-append, All-with}
+use Rattle.diff_tables.proofs.Stands.{IsClosed-from_stands, IsWithin-from_met, AreMet-from_within}
+use Rattle.diff_tables.proofs.Stands.{allowed-from_possible, back-from_no_room, not_allowed-from_back}
+use Rattle.diff_tables.proofs.AddingSteps.{StandsFor-new_rows, literals_of-numbered_from, All-at, All-take, All-append}
+use Rattle.diff_tables.proofs.AddingSteps.{All-with}
 
 -- the first and the second of two lists of which all holds
 pub All-first : (P : Lit → Type 0) (ks ls : List Lit) → AllByRecursion P (ks ++ ls) → AllByRecursion P ks
@@ -41,8 +44,8 @@ no_values_at_stop n t ps ls place stands named inside no_room v met_before met =
     let met_so_far : AreMet v (literals_of (ps ++ numbered_from 0 (take place ls))) =
     All-with (λ m. Meets v m) ps (take place ls) met_before (All-take (λ m. Meets v m) ls place met) in
     not_allowed-from_back t l (back-from_no_room t l no_room)
-    (allowed-from_possible n t (ps ++ numbered_from 0 (take place ls)) stands place l (All-at (λ m. IsNamed n m) ls place named inside)
-    (v, (met_so_far, All-at (λ m. Meets v m) ls place met inside)))
+    (allowed-from_possible n t (ps ++ numbered_from 0 (take place ls)) stands place l
+    (All-at (λ m. IsNamed n m) ls place named inside) (v, (met_so_far, All-at (λ m. Meets v m) ls place met inside)))
 
 -- the literals of two lists under their places
 pub literals_of-both : (ks ls : List Lit) → literals_of (numbered_from 0 ks ++ numbered_from 0 ls) ≡ ks ++ ls
@@ -58,7 +61,8 @@ at_most-some (Some h) k most = (h, refl)
 
 -- something is kept from name 0 to each name that is bounded from it
 kept_from_zero :
-    (n : ℕ) (t : ℕ → ℕ → Option Hop) (ks ls : List Lit) → StandsFor n t (numbered_from 0 ks ++ numbered_from 0 ls) → 0 < n
+    (n : ℕ) (t : ℕ → ℕ → Option Hop) (ks ls : List Lit)
+    → StandsFor n t (numbered_from 0 ks ++ numbered_from 0 ls) → 0 < n
     → IsBoundedBelow n ls → (x : ℕ) → x < n → (h : Hop) × (t 0 x ≡ Some h)
 kept_from_zero n t ks ls stands some bounded x xn =
     let bound = bounded x xn in
@@ -69,8 +73,10 @@ kept_from_zero n t ks ls stands some bounded x xn =
 
 -- the negations of what is kept from name 0 are the least values
 pub AreLeastMeeting-from_stands :
-    (n m : ℕ) (t : ℕ → ℕ → Option Hop) (ks ls : List Lit) (values : List ℤ) → StandsFor n t (numbered_from 0 ks ++ numbered_from 0 ls)
-    → m ≡ n → 0 < n → IsBoundedBelow n ls → length values ≡ m → ((x : ℕ) → x < m → get_or values x (pos 0) ≡ least_of (t 0 x))
+    (n m : ℕ) (t : ℕ → ℕ → Option Hop) (ks ls : List Lit) (values : List ℤ)
+    → StandsFor n t (numbered_from 0 ks ++ numbered_from 0 ls)
+    → m ≡ n → 0 < n → IsBoundedBelow n ls → length values ≡ m
+    → ((x : ℕ) → x < m → get_or values x (pos 0) ≡ least_of (t 0 x))
     → AreLeastMeeting n (ks ++ ls) values
 AreLeastMeeting-from_stands n m t ks ls values stands same some bounded len is_value = record {
   len = len ∙ same;
@@ -114,14 +120,16 @@ AreLeastMeeting-from_stands n m t ks ls values stands same some bounded len is_v
 -- ---- floors
 pub floors_from-push :
     (x : ℕ) (floors : List ℤ) (f : ℤ)
-    → floors_from x (floors ++ f ∷ []) ≡ floors_from x floors ++ record { x = 0; y = x + length floors; k = pos 0 -ℤ f } ∷ []
+    → floors_from x (floors ++ f ∷ []) ≡ floors_from x floors
+    ++ record { x = 0; y = x + length floors; k = pos 0 -ℤ f } ∷ []
 floors_from-push x [] f =
     let e : x ≡ x + 0 = omega arith in
     ap (λ y. record { x = 0; y = y; k = pos 0 -ℤ f } ∷ []) e
 floors_from-push x (g ∷ floors) f =
     let e : x + 1 + length floors ≡ x + suc (length floors) = omega arith in
     ap (λ rest. record { x = 0; y = x; k = pos 0 -ℤ g } ∷ rest)
-    (floors_from-push (x + 1) floors f ∙ ap (λ y. floors_from (x + 1) floors ++ record { x = 0; y = y; k = pos 0 -ℤ f } ∷ []) e)
+    (floors_from-push (x + 1) floors f
+    ∙ ap (λ y. floors_from (x + 1) floors ++ record { x = 0; y = y; k = pos 0 -ℤ f } ∷ []) e)
 
 -- one more floor
 pub floors_from-take :
@@ -134,9 +142,11 @@ floors_from-take floors x inside =
     ∙ floors_from-push 0 (take x floors) (get_or floors x (pos 0))
     ∙ ap (λ y. floors_from 0 (take x floors) ++ record { x = 0; y = y; k = pos 0 -ℤ get_or floors x (pos 0) } ∷ []) e
 
-pub AreNamed-floors_from : (n x : ℕ) (floors : List ℤ) → 0 < n → x + length floors ≤ n → AreNamed n (floors_from x floors)
+pub AreNamed-floors_from : (n x : ℕ) (floors : List ℤ) → 0 < n → x + length floors ≤ n
+    → AreNamed n (floors_from x floors)
 AreNamed-floors_from n x [] some room = tt
-AreNamed-floors_from n x (f ∷ fs) some room = ((some, omega arith), AreNamed-floors_from n (x + 1) fs some (omega arith))
+AreNamed-floors_from n x (f ∷ fs) some room =
+    ((some, omega arith), AreNamed-floors_from n (x + 1) fs some (omega arith))
 
 pub AreSmall-floors_from : (x : ℕ) (floors : List ℤ) → AreFloors floors → AreSmall (floors_from x floors)
 AreSmall-floors_from x [] are = tt
@@ -153,7 +163,8 @@ has_floor :
     (x : ℕ) (floors : List ℤ) (y : ℕ) → y < length floors
     → HasLiteral (floors_from x floors) (record { x = 0; y = x + y; k = pos 0 -ℤ get_or floors y (pos 0) })
 has_floor x [] y inside = absurd (omega arith)
-has_floor x (f ∷ fs) zero inside = inl (let e : x ≡ x + 0 = omega arith in ap (λ y. record { x = 0; y = y; k = pos 0 -ℤ f }) e)
+has_floor x (f ∷ fs) zero inside =
+    inl (let e : x ≡ x + 0 = omega arith in ap (λ y. record { x = 0; y = y; k = pos 0 -ℤ f }) e)
 has_floor x (f ∷ fs) (suc y) inside =
     inr (let e : x + 1 + y ≡ x + suc y = omega arith in
     subst (λ (z : ℕ). HasLiteral (floors_from (x + 1) fs) (record { x = 0; y = z; k = pos 0 -ℤ get_or fs y (pos 0) })) e
@@ -164,14 +175,15 @@ has_floor_at :
     → HasLiteral (floors_from 0 floors) (record { x = 0; y = y; k = pos 0 -ℤ get_or floors y (pos 0) })
 has_floor_at floors y inside =
     let e : 0 + y ≡ y = omega arith in
-    subst (λ (z : ℕ). HasLiteral (floors_from 0 floors) (record { x = 0; y = z; k = pos 0 -ℤ get_or floors y (pos 0) })) e
-    (has_floor 0 floors y inside)
+    subst (λ (z : ℕ). HasLiteral (floors_from 0 floors) (record { x = 0; y = z; k = pos 0 -ℤ get_or floors y (pos 0) }))
+    e (has_floor 0 floors y inside)
 
 pub IsBoundedBelow-floors_from : (floors : List ℤ) → IsBoundedBelow (length floors) (floors_from 0 floors)
 IsBoundedBelow-floors_from floors y inside = (pos 0 -ℤ get_or floors y (pos 0), has_floor_at floors y inside)
 
 -- a valuation with 0 at name 0 meets the floors as literals exactly where it is at least the floors
-pub floors-from_met : (floors : List ℤ) (v : ℕ → ℤ) → v 0 ≡ pos 0 → AreMet v (floors_from 0 floors) → MeetsFloors floors v
+pub floors-from_met : (floors : List ℤ) (v : ℕ → ℤ) → v 0 ≡ pos 0
+    → AreMet v (floors_from 0 floors) → MeetsFloors floors v
 floors-from_met floors v at_zero met x inside =
     let here : v 0 ≤ℤ (v x +ℤ (pos 0 -ℤ get_or floors x (pos 0))) =
     All-has (λ m. Meets v m) (floors_from 0 floors) (record { x = 0; y = x; k = pos 0 -ℤ get_or floors x (pos 0) }) met
@@ -180,7 +192,8 @@ floors-from_met floors v at_zero met x inside =
 
 -- a valuation with 0 at name 0 that is at least the floors meets them as literals
 met-from_floors :
-    (x : ℕ) (floors : List ℤ) (v : ℕ → ℤ) → v 0 ≡ pos 0 → ((y : ℕ) → y < length floors → get_or floors y (pos 0) ≤ℤ v (x + y))
+    (x : ℕ) (floors : List ℤ) (v : ℕ → ℤ) → v 0 ≡ pos 0
+    → ((y : ℕ) → y < length floors → get_or floors y (pos 0) ≤ℤ v (x + y))
     → AreMet v (floors_from x floors)
 met-from_floors x [] v at_zero above = tt
 met-from_floors x (f ∷ fs) v at_zero above =
@@ -192,14 +205,16 @@ met-from_floors x (f ∷ fs) v at_zero above =
           subst (λ (z : ℕ). get_or fs y (pos 0) ≤ℤ v z) e (above (suc y) (omega arith)))),
     )
 
-pub AreMet-floors_from : (floors : List ℤ) (v : ℕ → ℤ) → v 0 ≡ pos 0 → MeetsFloors floors v → AreMet v (floors_from 0 floors)
+pub AreMet-floors_from : (floors : List ℤ) (v : ℕ → ℤ) → v 0 ≡ pos 0 → MeetsFloors floors v
+    → AreMet v (floors_from 0 floors)
 AreMet-floors_from floors v at_zero above =
     met-from_floors 0 floors v at_zero (λ y inside.
     (let e : y ≡ 0 + y = omega arith in subst (λ (z : ℕ). get_or floors y (pos 0) ≤ℤ v z) e (above y inside)))
 
 -- least values that meet the literals and the floors as literals
 pub AreLeast-from_meeting :
-    (ls : List Lit) (floors values : List ℤ) (n : ℕ) → n ≡ length floors → AreLeastMeeting n (ls ++ floors_from 0 floors) values
+    (ls : List Lit) (floors values : List ℤ) (n : ℕ) → n ≡ length floors
+    → AreLeastMeeting n (ls ++ floors_from 0 floors) values
     → AreLeast ls floors values
 AreLeast-from_meeting ls floors values n same least = record {
   len = least.len ∙ same;
@@ -209,8 +224,8 @@ AreLeast-from_meeting ls floors values n same least = record {
       floors-from_met floors (valuation_of values) least.zero_first
       (All-second (λ m. Meets (valuation_of values) m) ls (floors_from 0 floors) least.met);
   least = λ v at_zero met above x inside.
-      least.least v at_zero (All-append (λ m. Meets v m) ls (floors_from 0 floors) met (AreMet-floors_from floors v at_zero above)) x
-      (omega arith);
+      least.least v at_zero (All-append (λ m. Meets v m) ls (floors_from 0 floors) met
+      (AreMet-floors_from floors v at_zero above)) x (omega arith);
 }
 
 -- a floor at a place
@@ -227,7 +242,8 @@ pub StandsFor-first :
     → ((ps : List Numbered) → StandsFor n (kept_of old) ps → StandsFor n (kept_of new) (ps ++ numbered_from 0 ls))
     → StandsFor m (kept_of new) (numbered_from 0 ls)
 StandsFor-first n m old new ls are_new same added =
-    subst (λ (w : ℕ). StandsFor w (kept_of new) (numbered_from 0 ls)) (sym same) (added [] (StandsFor-new_rows n old are_new))
+    subst (λ (w : ℕ). StandsFor w (kept_of new) (numbered_from 0 ls)) (sym same)
+    (added [] (StandsFor-new_rows n old are_new))
 
 pub AreSmall-numbered_from : (ls : List Lit) → AreSmall ls → AreSmall (literals_of (numbered_from 0 ls))
 AreSmall-numbered_from ls small = subst (λ (xs : List Lit). AreSmall xs) (sym (literals_of-numbered_from 0 ls)) small

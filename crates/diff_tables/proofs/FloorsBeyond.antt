@@ -1,9 +1,10 @@
 -- Floors of names that no literal speaks of.
-use Rattle.std.proofs.Common.{◌≡◌, ℕ, ◌+◌, ◌-◌, ◌<◌, ◌≤◌, ℤ, pos, ◌+ℤ◌, ◌≤ℤ◌, List, [], ◌∷◌, ◌++◌, length, take, drop, get_or, arith, sym, ap, ◌∙◌, subst, inl}
-use Rattle.std.proofs.Common.{inr}
+use Rattle.std.proofs.Common.{◌≡◌, ℕ, ◌+◌, ◌-◌, ◌<◌, ◌≤◌, ℤ, pos, ◌+ℤ◌, ◌≤ℤ◌, List, [], ◌∷◌, ◌++◌, length, take, drop}
+use Rattle.std.proofs.Common.{get_or, arith, sym, ap, ◌∙◌, subst, inl, inr}
 use Rattle.std.proofs.lemmas.Int.{ints}
 use Rattle.std.proofs.lemmas.Bool.{cases_lt}
-use Rattle.std.proofs.lemmas.List.{take_more, length-take-le, length-append, length-drop, get_or-take, get_or-drop, get_or_append_left, get_or-append_right}
+use Rattle.std.proofs.lemmas.List.{take_more, length-take-le, length-append, length-drop, get_or-take, get_or-drop}
+use Rattle.std.proofs.lemmas.List.{get_or_append_left, get_or-append_right}
 use Rattle.diff_graph.specs.declared.lit.Lit.{Lit}
 use Rattle.diff_graph.specs.Literals.{AreMet}
 use Rattle.diff_graph.specs.Cycles.{literal_at}
@@ -13,14 +14,17 @@ use Rattle.diff_tables.proofs.AddingSteps.{AreNamed-wider, All-append}
 
 -- one more literal is named
 pub AreNamed-more :
-    (n m : ℕ) (ls : List Lit) (place : ℕ) → place < length ls → n ≤ m → AreNamed n (take place ls) → IsNamed m (literal_at ls place)
+    (n m : ℕ) (ls : List Lit) (place : ℕ) → place < length ls → n ≤ m → AreNamed n (take place ls)
+    → IsNamed m (literal_at ls place)
     → AreNamed m (take (place + 1) ls)
 AreNamed-more n m ls place inside wider named last =
     subst (λ (xs : List Lit). AreNamed m xs) (sym (take_more ls place (record { x = 0; y = 0; k = pos 0 }) inside))
-    (All-append (λ l. IsNamed m l) (take place ls) (literal_at ls place ∷ []) (AreNamed-wider n m (take place ls) wider named) (last, tt))
+    (All-append (λ l. IsNamed m l) (take place ls) (literal_at ls place ∷ [])
+    (AreNamed-wider n m (take place ls) wider named) (last, tt))
 
 -- valuations that agree on the names of the literals meet the same
-AreMet-agreeing : (n : ℕ) (v w : ℕ → ℤ) (ls : List Lit) → AreNamed n ls → ((x : ℕ) → x < n → v x ≡ w x) → AreMet v ls → AreMet w ls
+AreMet-agreeing : (n : ℕ) (v w : ℕ → ℤ) (ls : List Lit) → AreNamed n ls → ((x : ℕ) → x < n → v x ≡ w x)
+    → AreMet v ls → AreMet w ls
 AreMet-agreeing n v w [] named agree met = tt
 AreMet-agreeing n v w (l ∷ ls) named agree met =
     let first : v l.x ≡ w l.x = agree l.x named.0.0 in
@@ -29,7 +33,8 @@ AreMet-agreeing n v w (l ∷ ls) named agree met =
     (omega (arith, ints), AreMet-agreeing n v w ls named.1 agree met.1)
 
 -- what meets the floors meets the first of them
-pub MeetsFloors-first : (n : ℕ) (floors : List ℤ) (v : ℕ → ℤ) → n ≤ length floors → MeetsFloors floors v → MeetsFloors (take n floors) v
+pub MeetsFloors-first : (n : ℕ) (floors : List ℤ) (v : ℕ → ℤ) → n ≤ length floors → MeetsFloors floors v
+    → MeetsFloors (take n floors) v
 MeetsFloors-first n floors v fits above x inside =
     let len : length (take n floors) ≡ n = length-take-le n floors fits in
     let below : x < n = omega arith in
@@ -40,12 +45,14 @@ MeetsFloors-first n floors v fits above x inside =
 -- least values above the first floors, with the other floors behind them, where no literal speaks of
 -- the other names
 pub AreLeast-with_floors :
-    (ls : List Lit) (floors values : List ℤ) (n : ℕ) → 0 < n → n ≤ length floors → AreNamed n ls → AreLeast ls (take n floors) values
+    (ls : List Lit) (floors values : List ℤ) (n : ℕ) → 0 < n → n ≤ length floors → AreNamed n ls
+    → AreLeast ls (take n floors) values
     → AreLeast ls floors (values ++ drop n floors)
 AreLeast-with_floors ls floors values n some fits named first = record {
   len =
       (let behind : length (drop n floors) ≡ length floors - n = length-drop n floors in
-      let whole : length (values ++ drop n floors) ≡ length values + length (drop n floors) = length-append values (drop n floors) in
+      let whole : length (values ++ drop n floors) ≡ length values + length (drop n floors) =
+      length-append values (drop n floors) in
       omega (arith, len));
   zero_first = value_below 0 some ∙ first.zero_first;
   met =
@@ -54,8 +61,10 @@ AreLeast-with_floors ls floors values n some fits named first = record {
   above = λ x inside.
       elim (cases_lt x n) [
         | inl below ↦
-            (let here : get_or (take n floors) x (pos 0) ≤ℤ get_or values x (pos 0) = first.above x (omega (arith, short)) in
-            let floor : get_or (take n floors) x (pos 0) ≡ get_or floors x (pos 0) = get_or-take n floors x (pos 0) below in
+            (let here : get_or (take n floors) x (pos 0) ≤ℤ get_or values x (pos 0) =
+            first.above x (omega (arith, short)) in
+            let floor : get_or (take n floors) x (pos 0) ≡ get_or floors x (pos 0) =
+            get_or-take n floors x (pos 0) below in
             let value : get_or (values ++ drop n floors) x (pos 0) ≡ get_or values x (pos 0) = value_below x below in
             omega (arith, ints))
         | inr past ↦
@@ -65,8 +74,8 @@ AreLeast-with_floors ls floors values n some fits named first = record {
   least = λ v at_zero met above x inside.
       elim (cases_lt x n) [
         | inl below ↦
-            (let here : get_or values x (pos 0) ≤ℤ v x = first.least v at_zero met (MeetsFloors-first n floors v fits above) x
-            (omega (arith, short)) in
+            (let here : get_or values x (pos 0) ≤ℤ v x =
+            first.least v at_zero met (MeetsFloors-first n floors v fits above) x (omega (arith, short)) in
             let value : get_or (values ++ drop n floors) x (pos 0) ≡ get_or values x (pos 0) = value_below x below in
             omega (arith, ints))
         | inr past ↦

@@ -1,6 +1,7 @@
 -- Rows of a table: an element-wise change of a row, as far as it has come.
-use Rattle.std.proofs.Common.{◌≡◌, ◌≢◌, ℕ, suc, ◌+◌, ◌-◌, ◌<◌, ◌≤◌, List, [], ◌∷◌, ◌++◌, length, get_or, set, Option, Some, None, ◌==◌, true, false}
-use Rattle.std.proofs.Common.{arith, refl, sym, ap, ◌∙◌, subst, inl, inr, if◌then◌else◌, pos, negsuc, ◌≤ℤ◌}
+use Rattle.std.proofs.Common.{◌≡◌, ◌≢◌, ℕ, suc, ◌+◌, ◌-◌, ◌<◌, ◌≤◌, List, [], ◌∷◌, ◌++◌, length, get_or, set, Option}
+use Rattle.std.proofs.Common.{Some, None, ◌==◌, true, false, arith, refl, sym, ap, ◌∙◌, subst, inl, inr, if◌then◌else◌}
+use Rattle.std.proofs.Common.{pos, negsuc, ◌≤ℤ◌}
 use Rattle.std.proofs.lemmas.Int.{ints}
 use Rattle.std.proofs.lemmas.Bool.{cases_eq, cases_lt, ne_eqb}
 use Rattle.std.proofs.lemmas.List.{get_or_past, append-nil, append_assoc, get_or-set_same, get_or-set_other, length-set}
@@ -8,7 +9,8 @@ use Rattle.diff_tables.specs.declared.hop.Hop.{Hop}
 use Rattle.diff_graph.specs.declared.lit.Lit.{Lit}
 use Rattle.diff_graph.specs.Limits.{IsNamed, IsSmall}
 use Rattle.diff_tables.specs.Tables.{kept_of}
-use Rattle.diff_tables.specs.Steps.{way_of, joined, lower_of, added, numbers_along, IsLowered, AreLowered, IsSquare, IsModest}
+use Rattle.diff_tables.specs.Steps.{way_of, joined, lower_of, added, numbers_along, IsLowered, AreLowered, IsSquare}
+use Rattle.diff_tables.specs.Steps.{IsModest}
 
 -- below a place each element is changed, and from there on it is as it was
 pub record DoneBelow (change : ℕ → Option Hop → Option Hop) (old new : List (Option Hop)) (place : ℕ) : Type 0 where
@@ -18,8 +20,10 @@ pub record DoneBelow (change : ℕ → Option Hop → Option Hop) (old new : Lis
 
 -- the element at the place is changed too
 pub DoneBelow-more :
-    (change : ℕ → Option Hop → Option Hop) (old new : List (Option Hop)) (place : ℕ) (hop : Option Hop) → DoneBelow change old new place
-    → place < length old → hop ≡ change place (get_or new place None) → DoneBelow change old (set new place hop) (place + 1)
+    (change : ℕ → Option Hop → Option Hop) (old new : List (Option Hop)) (place : ℕ) (hop : Option Hop)
+    → DoneBelow change old new place
+    → place < length old → hop ≡ change place (get_or new place None)
+    → DoneBelow change old (set new place hop) (place + 1)
 DoneBelow-more change old new place hop so_far inside changed =
     let within : place < length new = omega (arith, so_far.len) in
     record {
@@ -27,7 +31,8 @@ DoneBelow-more change old new place hop so_far inside changed =
       done = λ x below.
           elim (cases_eq x place) [
             | inl same ↦
-                rw same (get_or-set_same new place hop None within ∙ changed ∙ ap (change place) (so_far.left place (omega arith)))
+                rw same (get_or-set_same new place hop None within ∙ changed
+                ∙ ap (change place) (so_far.left place (omega arith)))
             | inr other ↦ get_or-set_other new place x hop None other ∙ so_far.done x (omega arith)
           ];
       left = λ x above.
@@ -55,7 +60,8 @@ numbers_along-here f most i x y below same =
     let e : most - i ≡ suc (most - (i + 1)) = omega arith in
     rw e (grind arith)
 
-pub numbers_along-end : (f : ℕ → Option Hop) (most i x y : ℕ) → i < most → f x ≡ None → numbers_along f (most - i) x y ≡ []
+pub numbers_along-end : (f : ℕ → Option Hop) (most i x y : ℕ) → i < most → f x ≡ None
+    → numbers_along f (most - i) x y ≡ []
 numbers_along-end f most i x y below none =
     let e : most - i ≡ suc (most - (i + 1)) = omega arith in
     rw (e, none) (elim (x == y) as (λ b. if◌then◌else◌ {A = List ℕ} b [] [] ≡ []) [ true ↦ refl | false ↦ refl ])
@@ -75,7 +81,8 @@ pub record HasPut (before after rest whole : List ℕ) : Type 0 where
   pub all : put ++ rest ≡ whole
 
 -- they are all, where the chain has ended
-pub HasPut-ended : (before after rest whole : List ℕ) → HasPut before after rest whole → rest ≡ [] → after ≡ before ++ whole
+pub HasPut-ended : (before after rest whole : List ℕ) → HasPut before after rest whole → rest ≡ []
+    → after ≡ before ++ whole
 HasPut-ended before after rest whole has ended =
     let put_all : has.put ≡ whole = sym (append-nil has.put) ∙ rw ended at has.all in
     has.is_put ∙ ap (λ (xs : List ℕ). before ++ xs) put_all
@@ -117,7 +124,8 @@ AreLowered-more ways from old new place row so_far inside lowered =
     }
 
 -- what a row has past its end
-pub kept_past_row : (rows : List (List (Option Hop))) → IsSquare rows → (x y : ℕ) → length rows ≤ x → kept_of rows x y ≡ None
+pub kept_past_row : (rows : List (List (Option Hop))) → IsSquare rows → (x y : ℕ) → length rows ≤ x
+    → kept_of rows x y ≡ None
 kept_past_row rows square x y past =
     elim (cases_lt y (length rows)) [
       | inl below ↦ get_or_past (get_or rows y []) x None (omega (arith, square y below))
@@ -129,7 +137,8 @@ kept_past_rows rows x y past = rw (get_or_past rows y [] past) refl
 
 -- lowered rows keep what the step says
 pub kept_of-lowered :
-    (old new : List (List (Option Hop))) (ways : List (Option Hop)) (number : ℕ) (l : Lit) → IsSquare old → IsNamed (length old) l
+    (old new : List (List (Option Hop))) (ways : List (Option Hop)) (number : ℕ) (l : Lit)
+    → IsSquare old → IsNamed (length old) l
     → length new ≡ length old → ((y : ℕ) → y < length old → IsLowered ways l.y (get_or old y []) (get_or new y []))
     → ((x : ℕ) → x < length old → get_or ways x None ≡ way_of number l x (kept_of old x l.x)) → (x y : ℕ)
     → kept_of new x y ≡ added (kept_of old) number l x y

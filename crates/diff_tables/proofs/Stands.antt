@@ -1,6 +1,7 @@
 -- What it is for a table to stand for a list, before and after a literal is added.
-use Rattle.std.proofs.Common.{◌≡◌, ℕ, zero, suc, ◌<◌, ◌≤◌, ◌==◌, ◌*◌, ℤ, pos, neg_ℤ, ◌+ℤ◌, ◌-ℤ◌, ◌≤ℤ◌, ◌<ℤ◌, true, false, nat_eq, List, [], ◌∷◌, ◌++◌, length}
-use Rattle.std.proofs.Common.{Option, Some, None, arith, refl, sym, ap, ◌∙◌, subst, inl, inr}
+use Rattle.std.proofs.Common.{◌≡◌, ℕ, zero, suc, ◌<◌, ◌≤◌, ◌==◌, ◌*◌, ℤ, pos, neg_ℤ, ◌+ℤ◌, ◌-ℤ◌, ◌≤ℤ◌, ◌<ℤ◌, true}
+use Rattle.std.proofs.Common.{false, nat_eq, List, [], ◌∷◌, ◌++◌, length, Option, Some, None, arith, refl, sym, ap, ◌∙◌}
+use Rattle.std.proofs.Common.{subst, inl, inr}
 use Rattle.std.specs.List.{AllByRecursion}
 use Rattle.std.proofs.lemmas.Int.{ints}
 use Rattle.std.proofs.lemmas.Bool.{eq-eqb, ne_eqb, and_from, true≢false, false≢true}
@@ -9,23 +10,28 @@ use Rattle.diff_tables.specs.declared.hop.Hop.{Hop}
 use Rattle.diff_graph.specs.Literals.{Meets, AreMet}
 use Rattle.diff_graph.specs.Cycles.{is_walk, weight}
 use Rattle.diff_graph.specs.Limits.{IsNamed, AreNamed, AreSmall}
-use Rattle.diff_tables.specs.Tables.{Numbered, literals_of, IsAmong, AreAmong, IsAtMost, Leads, StandsFor, IsPossibleWith}
-use Rattle.diff_tables.specs.Tables.{IsCycleOf}
-use Rattle.diff_tables.specs.Steps.{way_of, joined, lower_of, added, leaves_room, keeps, numbers_along, value_in, IsModest}
+use Rattle.diff_tables.specs.Tables.{Numbered, literals_of, IsAmong, AreAmong, IsAtMost, Leads, StandsFor}
+use Rattle.diff_tables.specs.Tables.{IsPossibleWith, IsCycleOf}
+use Rattle.diff_tables.specs.Steps.{way_of, joined, lower_of, added, leaves_room, keeps, numbers_along, value_in}
+use Rattle.diff_tables.specs.Steps.{IsModest}
 use Rattle.diff_graph.proofs.Walks.{negative_verdict}
-use Rattle.diff_tables.proofs.Closed.{IsWithin, IsClosed, IsAllowed, IsClosed-added, IsWithin-added, IsWithin-from_added, Meets-from_added, IsWithin-value_in}
-use Rattle.diff_tables.proofs.Closed.{at_most-from_within, own_hop, IsAtMost-weaker}
-use Rattle.diff_tables.proofs.Chains.{AreKept, IsAmong-append, IsAmong-last, Leads-short, Leads-small, chains-added, Leads-longer}
+use Rattle.diff_tables.proofs.Closed.{IsWithin, IsClosed, IsAllowed, IsClosed-added, IsWithin-added}
+use Rattle.diff_tables.proofs.Closed.{IsWithin-from_added, Meets-from_added, IsWithin-value_in, at_most-from_within}
+use Rattle.diff_tables.proofs.Closed.{own_hop, IsAtMost-weaker}
+use Rattle.diff_tables.proofs.Chains.{AreKept, IsAmong-append, IsAmong-last, Leads-short, Leads-small, chains-added}
+use Rattle.diff_tables.proofs.Chains.{Leads-longer}
 
 -- ---- what holds of each literal of a list
 pub All-among :
-    (P : Lit → Type 0) (ps : List Numbered) (number : ℕ) (l : Lit) → AllByRecursion P (literals_of ps) → IsAmong ps number l → P l
+    (P : Lit → Type 0) (ps : List Numbered) (number : ℕ) (l : Lit) → AllByRecursion P (literals_of ps)
+    → IsAmong ps number l → P l
 All-among P [] number l all among = absurd among
 All-among P (p ∷ ps) number l all among =
     elim among [ inl here ↦ subst P here.1 all.0 | inr there ↦ All-among P ps number l all.1 there ]
 
 pub All-from_among :
-    (P : Lit → Type 0) (ps : List Numbered) → ((number : ℕ) (l : Lit) → IsAmong ps number l → P l) → AllByRecursion P (literals_of ps)
+    (P : Lit → Type 0) (ps : List Numbered) → ((number : ℕ) (l : Lit) → IsAmong ps number l → P l)
+    → AllByRecursion P (literals_of ps)
 All-from_among P [] each = tt
 All-from_among P (p ∷ ps) each =
     (each p.number p.lit (inl (refl, refl)), All-from_among P ps (λ number l among. each number l (inr among)))
@@ -38,7 +44,8 @@ All-push P (p ∷ ps) number l all last = (all.0, All-push P ps number l all.1 l
 
 pub All-front :
     (P : Lit → Type 0) (ps : List Numbered) (number : ℕ) (l : Lit)
-    → AllByRecursion P (literals_of (ps ++ record { number = number; lit = l } ∷ [])) → AllByRecursion P (literals_of ps)
+    → AllByRecursion P (literals_of (ps ++ record { number = number; lit = l } ∷ []))
+    → AllByRecursion P (literals_of ps)
 All-front P [] number l all = tt
 All-front P (p ∷ ps) number l all = (all.0, All-front P ps number l all.1)
 
@@ -83,13 +90,14 @@ module _ (n : ℕ) (t : ℕ → ℕ → Option Hop) (ps : List Numbered) (stands
   pub AreMet-from_within : (v : ℕ → ℤ) → IsWithin n t v → AreMet v (literals_of ps)
   AreMet-from_within v within =
       All-from_among (λ m. Meets v m) ps (λ number l among.
-      within.at l.x l.y (AreKept-from_stands.first_below number l among) (AreKept-from_stands.second_below number l among) l.k
-      (AreKept-from_stands.at_most number l among))
+      within.at l.x l.y (AreKept-from_stands.first_below number l among)
+      (AreKept-from_stands.second_below number l among) l.k (AreKept-from_stands.at_most number l among))
 
 -- a closed table stands for a list whose values are those within it, and whose chains it has
 pub StandsFor-from_closed :
     (n : ℕ) (t : ℕ → ℕ → Option Hop) (ps : List Numbered) → IsClosed n t → AreNamed n (literals_of ps)
-    → ((v : ℕ → ℤ) → IsWithin n t v → AreMet v (literals_of ps)) → ((v : ℕ → ℤ) → AreMet v (literals_of ps) → IsWithin n t v)
+    → ((v : ℕ → ℤ) → IsWithin n t v → AreMet v (literals_of ps))
+    → ((v : ℕ → ℤ) → AreMet v (literals_of ps) → IsWithin n t v)
     → ((x y : ℕ) (h : Hop) → t x y ≡ Some h → (x < n) × (y < n))
     → ((x y : ℕ) (h : Hop) → t x y ≡ Some h → (count : ℕ) × Leads t ps count x y h.k) → StandsFor n t ps
 StandsFor-from_closed n t ps closed named met within inside chains = record {
@@ -136,8 +144,8 @@ module _ (n : ℕ) (t : ℕ → ℕ → Option Hop) (ps : List Numbered) (stands
       (All-last (λ m. Meets v m) ps number l met))
       inside
       (λ x y h is_h. chains-added n t ps closed
-      (AreKept-from_stands n t ps stands) number l named.0 named.1 allowed stands.inside stands.chains x y h (inside x y h is_h).0
-      (inside x y h is_h).1 is_h)
+      (AreKept-from_stands n t ps stands) number l named.0 named.1 allowed stands.inside stands.chains x y h
+      (inside x y h is_h).0 (inside x y h is_h).1 is_h)
 
   -- a literal is allowed exactly where some integers meet it and the list
   pub possible-from_allowed : IsAllowed t l → IsPossibleWith (literals_of ps) l
@@ -170,7 +178,8 @@ module _ (n : ℕ) (t : ℕ → ℕ → Option Hop) (ps : List Numbered) (stands
     tight = λ x y xn yn k. (
       λ at v met. (stands.tight x y xn yn k).0 at v (All-front (λ m. Meets v m) ps number l met),
       λ follows. (stands.tight x y xn yn k).1 (λ v met.
-          follows v (All-push (λ m. Meets v m) ps number l met ((stands.tight l.x l.y named.0 named.1 l.k).0 most v met))),
+          follows v
+          (All-push (λ m. Meets v m) ps number l met ((stands.tight l.x l.y named.0 named.1 l.k).0 most v met))),
     );
     own = stands.own;
     inside = stands.inside;
@@ -205,7 +214,8 @@ StandsFor-new n t own same =
           let low : pos 0 ≤ℤ k = here.1 in
           rw here.0 (omega (arith, ints)));
     })
-    (λ x y h is_h. (let e : x ≡ y = (same x y h is_h).0 in let below : x < n = (same x y h is_h).1 in (below, omega arith)))
+    (λ x y h is_h. (let e : x ≡ y = (same x y h is_h).0 in
+    let below : x < n = (same x y h is_h).1 in (below, omega arith)))
     (λ x y h is_h.
     (let here : x ≡ y = (same x y h is_h).0 in
     let mine : (g : Hop) × (t x x ≡ Some g) × (g.k ≡ pos 0) = own x (same x y h is_h).1 in
@@ -236,7 +246,8 @@ StandsFor-new n t own same =
 
 -- tables that keep the same stand for the same lists
 pub StandsFor-same :
-    (n : ℕ) (t u : ℕ → ℕ → Option Hop) (ps : List Numbered) → ((x y : ℕ) → t x y ≡ u x y) → StandsFor n t ps → StandsFor n u ps
+    (n : ℕ) (t u : ℕ → ℕ → Option Hop) (ps : List Numbered) → ((x y : ℕ) → t x y ≡ u x y)
+    → StandsFor n t ps → StandsFor n u ps
 StandsFor-same n t u ps same stands =
     let e : t ≡ u = λ i x y. (same x y) i in
     subst (λ (w : ℕ → ℕ → Option Hop). StandsFor n w ps) e stands
@@ -277,7 +288,8 @@ at_most-from_keeps (Some h) k kept = grind (arith, ints)
 
 -- ---- sizes
 pub IsModest-from_stands :
-    (n : ℕ) (t : ℕ → ℕ → Option Hop) (ps : List Numbered) → StandsFor n t ps → AreSmall (literals_of ps) → n ≤ 256 → (x y : ℕ)
+    (n : ℕ) (t : ℕ → ℕ → Option Hop) (ps : List Numbered) → StandsFor n t ps
+    → AreSmall (literals_of ps) → n ≤ 256 → (x y : ℕ)
     → IsModest 1000000 (t x y)
 IsModest-from_stands n t ps stands small few x y = by (t x y) refl
   where
@@ -286,7 +298,8 @@ IsModest-from_stands n t ps stands small few x y = by (t x y) refl
     by (Some h) e =
         let chain = stands.chains x y h e in
         let short : chain.0 < n =
-        Leads-short n t ps (IsClosed-from_stands n t ps stands) stands.inside chain.0 x y h.k (stands.inside x y h e).1 chain.1 in
+        Leads-short n t ps (IsClosed-from_stands n t ps stands) stands.inside chain.0 x y h.k
+        (stands.inside x y h e).1 chain.1 in
         let sizes = Leads-small t ps small chain.0 x y h.k chain.1 in
         let low : neg_ℤ (pos (1001 * chain.0)) ≤ℤ h.k = sizes.0 in
         let high : h.k ≤ℤ pos (1001 * chain.0) = sizes.1 in
@@ -328,9 +341,11 @@ Followed-from_leads t ps (suc most) (suc count) x y k room leads =
     let test : (x == y) ≡ false = ne_eqb x y leads.0 in
     let rest : Followed t ps most count h.second y (k -ℤ l.k) =
     Followed-from_leads t ps most count h.second y (k -ℤ l.k) (omega arith) leads.1.3.4 in
-    let on : numbers_along (λ z. t z y) (suc most) x y ≡ h.number ∷ numbers_along (λ z. t z y) most h.second y = rw (test, is_h) refl in
+    let on : numbers_along (λ z. t z y) (suc most) x y ≡ h.number ∷ numbers_along (λ z. t z y) most h.second y =
+    rw (test, is_h) refl in
     let begins : nat_eq l.x x ≡ true = eq-eqb l.x x leads.1.3.2 in
-    let goes_on : is_walk l.y rest.literals y ≡ true = subst (λ (z : ℕ). is_walk z rest.literals y ≡ true) (sym leads.1.3.3) rest.walks in
+    let goes_on : is_walk l.y rest.literals y ≡ true =
+    subst (λ (z : ℕ). is_walk z rest.literals y ≡ true) (sym leads.1.3.3) rest.walks in
     let weighs_rest : weight rest.literals ≡ k -ℤ l.k = rest.weighs in
     record {
       literals = l ∷ rest.literals;
@@ -340,7 +355,8 @@ Followed-from_leads t ps (suc most) (suc count) x y k room leads =
       counts = ap length on ∙ ap suc rest.counts;
     }
 
-AreAmong-append : (ps qs : List Numbered) (numbers : List ℕ) (ls : List Lit) → AreAmong ps numbers ls → AreAmong (ps ++ qs) numbers ls
+AreAmong-append : (ps qs : List Numbered) (numbers : List ℕ) (ls : List Lit) → AreAmong ps numbers ls
+    → AreAmong (ps ++ qs) numbers ls
 AreAmong-append ps qs [] [] among = tt
 AreAmong-append ps qs [] (l ∷ ls) among = absurd among
 AreAmong-append ps qs (number ∷ numbers) [] among = absurd among
@@ -349,7 +365,8 @@ AreAmong-append ps qs (number ∷ numbers) (l ∷ ls) among =
 
 -- where a chain leads back, the literal and the chain are a negative cycle of few literals
 pub IsCycleOf-from_back :
-    (n : ℕ) (t : ℕ → ℕ → Option Hop) (ps : List Numbered) → StandsFor n t ps → (number : ℕ) (l : Lit) → IsNamed n l → LeadsBack t l
+    (n : ℕ) (t : ℕ → ℕ → Option Hop) (ps : List Numbered) → StandsFor n t ps → (number : ℕ) (l : Lit)
+    → IsNamed n l → LeadsBack t l
     → IsCycleOf n (ps ++ record { number = number; lit = l } ∷ []) (number ∷ numbers_along (λ z. t z l.x) n l.y l.x)
 IsCycleOf-from_back n t ps stands number l named back =
     let chain = stands.chains l.y l.x back.hop back.is_hop in
@@ -362,7 +379,11 @@ IsCycleOf-from_back n t ps stands number l named back =
     let low : (l.k +ℤ weight followed.literals) <ℤ pos 0 = omega (arith, ints) in
     record {
       literals = l ∷ followed.literals;
-      named = (IsAmong-last ps number l, AreAmong-append ps _ (numbers_along (λ z. t z l.x) n l.y l.x) followed.literals followed.named);
+      named = (
+        IsAmong-last ps number l,
+        AreAmong-append ps _ (numbers_along (λ z. t z l.x) n l.y l.x)
+            followed.literals followed.named,
+      );
       negative = negative_verdict (l ∷ followed.literals) followed.walks low;
       few = omega (arith, followed.counts);
     }

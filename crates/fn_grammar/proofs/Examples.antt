@@ -18,15 +18,15 @@ use Rattle.fn_rules.specs.Formulas as formulas
 use Rattle.fn_rules.specs.Functions.{Function}
 use Rattle.fn_rules.specs.Building.{function_from}
 use Rattle.fn_tokens.specs.declared.token.Sign.TheVariants as signs
-use Rattle.fn_moves.specs.declared.control.Written.TheVariants as written
+use Rattle.fn_tokens.specs.declared.control.Written.TheVariants as written
 use Rattle.fn_tokens.specs.Words.{word_token}
 use Rattle.fn_tokens.specs.Tokens.{front_of}
 use Rattle.fn_tokens.specs.Spelling.{spelled_from}
-use Rattle.fn_moves.specs.declared.language.Language.TheVariants as languages
+use Rattle.fn_tokens.specs.declared.language.Language.TheVariants as languages
 use Rattle.fn_grammar.specs.Print.{head_tokens}
-use Rattle.fn_moves.specs.Meaning.{to_formulas}
-use Rattle.fn_grammar.specs.Grammar.{Phrase, Always, Compare, Shifted, Negated, Round, One, Both, Single, Either, written_as, made}
-use Rattle.fn_grammar.specs.Grammar.{WrittenBlock, IsTextOf}
+use Rattle.fn_tokens.specs.Meaning.{to_formulas}
+use Rattle.fn_grammar.specs.Grammar.{Phrase, Always, Compare, Shifted, Negated, Round, One, Both, Single, Either}
+use Rattle.fn_grammar.specs.Grammar.{written_as, made, WrittenBlock, IsTextOf}
 
 abbrev compared : Sort → Side → Cmp → ℤ → Formula
 compared sort left cmp k = formulas.Compare (record { sort = sort; left = left; cmp = cmp; k = k })
@@ -100,9 +100,12 @@ far =
 
 text_is_of_far : IsTextOf text far
 unfolding front_of word_token head_tokens
-text_is_of_far = record { language = languages.One; head = head; blocks = blocks; allowed = refl; written = refl; means = refl }
+text_is_of_far =
+    record { language = languages.One; head = head; blocks = blocks; allowed = refl; written = refl; means = refl }
 
 -- the same function in the second language
-text_in_two : IsTextOf (codes "otfn 2" ++ newline ++ codes "text plain" ++ newline ++ codes "kinds ins" ++ newline ++ lines) far
+text_in_two :
+    IsTextOf (codes "otfn 2" ++ newline ++ codes "text plain" ++ newline ++ codes "kinds ins" ++ newline ++ lines) far
 unfolding front_of word_token head_tokens
-text_in_two = record { language = languages.Two; head = head; blocks = blocks; allowed = refl; written = refl; means = refl }
+text_in_two =
+    record { language = languages.Two; head = head; blocks = blocks; allowed = refl; written = refl; means = refl }

@@ -1,5 +1,6 @@
 -- What all kinds pass, and pairs of kinds.
-use Rattle.std.proofs.Common.{◌≡◌, Bool, true, false, not, ◌&&◌, ◌||◌, List, [], ◌∷◌, refl, ap, sym, subst, inl, inr, ◌∙◌}
+use Rattle.std.proofs.Common.{◌≡◌, Bool, true, false, not, ◌&&◌, ◌||◌, List, [], ◌∷◌, refl, ap, sym, subst, inl, inr}
+use Rattle.std.proofs.Common.{◌∙◌}
 use Rattle.std.specs.List.{list_all, list_any}
 use Rattle.std.proofs.lemmas.Bool.{false≢true, and_from, and_parts, or_cases, cases_Bool, not-true}
 use Rattle.ot_model.specs.declared.op.Kind.{Kind}
@@ -26,7 +27,8 @@ pub no_kind_from : (p : Kind → Bool) → ((k : Kind) → p k ≡ false) → li
 no_kind_from p none = list_any_from p KINDS none
 
 -- some element passes the test
-pub list_any_by : {X : Type 0} (P : Type 0) (p : X → Bool) (xs : List X) → list_any p xs ≡ true → ((x : X) → p x ≡ true → P) → P
+pub list_any_by : {X : Type 0} (P : Type 0) (p : X → Bool) (xs : List X) → list_any p xs ≡ true
+    → ((x : X) → p x ≡ true → P) → P
 list_any_by P p [] some goes = absurd (cc)
 list_any_by P p (x ∷ xs) some goes =
     elim (or_cases (p x) (list_any p xs) some) [ inl here ↦ goes x here | inr later ↦ list_any_by P p xs later goes ]
@@ -36,7 +38,8 @@ none_passes p [] none = refl
 none_passes p (x ∷ xs) none =
     elim (cases_Bool (p x)) [
       | inl passes ↦ absurd (false≢true (sym none ∙ ap (λ b. b || list_any p xs) passes))
-      | inr fails ↦ and_from (not (p x)) _ (ap (λ b. not b) fails) (none_passes p xs (sym (ap (λ b. b || list_any p xs) fails) ∙ none))
+      | inr fails ↦ and_from (not (p x)) _ (ap (λ b. not b) fails)
+          (none_passes p xs (sym (ap (λ b. b || list_any p xs) fails) ∙ none))
     ]
 
 -- what all kinds pass, each of them passes
@@ -46,10 +49,12 @@ each_kind_true p k all =
     subst (λ (x : Kind). p x ≡ true) listed.2 (each_true p KINDS listed.0 k all listed.1)
 
 -- what all listed pairs pass, each pair passes
-pub listed_pair_true : (p : Kind → Kind → Bool) (k l : Kind) → list_all (λ x. p x.0 x.1) kind_pairs ≡ true → p k l ≡ true
+pub listed_pair_true : (p : Kind → Kind → Bool) (k l : Kind)
+    → list_all (λ x. p x.0 x.1) kind_pairs ≡ true → p k l ≡ true
 listed_pair_true p k l all =
     let listed = Contains-pair k l in
-    subst (λ (x : Kind × Kind). p x.0 x.1 ≡ true) listed.2 (each_true (λ x. p x.0 x.1) kind_pairs listed.0 (k, l) all listed.1)
+    subst (λ (x : Kind × Kind). p x.0 x.1 ≡ true) listed.2
+    (each_true (λ x. p x.0 x.1) kind_pairs listed.0 (k, l) all listed.1)
 
 -- where no kind passes the test, none does
 pub kind_fails : (p : Kind → Bool) (k : Kind) → list_any p KINDS ≡ false → p k ≡ false
@@ -68,7 +73,8 @@ is_same_kind-itself Del = refl
 is_same_kind-itself Upd = refl
 
 -- what is so of a pair of kinds is so of the pair that the tests take for it
-pub same_pair : (P : Kind → Kind → Type 0) (k l i j : Kind) → (is_same_kind k i && is_same_kind l j) ≡ true → P k l → P i j
+pub same_pair : (P : Kind → Kind → Type 0) (k l i j : Kind)
+    → (is_same_kind k i && is_same_kind l j) ≡ true → P k l → P i j
 same_pair P k l i j same h =
     let parts = and_parts (is_same_kind k i) (is_same_kind l j) same in
     same_kind (λ x. P x j) k i parts.0 (same_kind (λ y. P k y) l j parts.1 h)

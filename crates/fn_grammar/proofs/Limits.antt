@@ -1,7 +1,7 @@
 -- A file within the limits stands for a function within the limits: its parentheses, atoms, offsets and
 -- cases are no fewer than those of the formulas that it is made into.
-use Rattle.std.proofs.Common.{◌≡◌, ℕ, zero, suc, ◌+◌, ◌≤◌, Bool, true, false, ◌&&◌, ◌||◌, nat_le, nat_eq, IsTrue, List, [], ◌∷◌, length}
-use Rattle.std.proofs.Common.{map, count_by, cond, refl, sym, ap, subst, ◌∙◌, inl, inr, rules, arith}
+use Rattle.std.proofs.Common.{◌≡◌, ℕ, zero, suc, ◌+◌, ◌≤◌, Bool, true, false, ◌&&◌, ◌||◌, nat_le, nat_eq, IsTrue, List}
+use Rattle.std.proofs.Common.{[], ◌∷◌, length, map, count_by, cond, refl, sym, ap, subst, ◌∙◌, inl, inr, rules, arith}
 use Rattle.std.specs.List.{list_all}
 use Rattle.std.proofs.lemmas.Bool.Decides.{nat_tests}
 use Rattle.std.proofs.lemmas.List.{length-map}
@@ -17,18 +17,19 @@ use Rattle.fn_rules.specs.Formulas as formulas
 use Rattle.fn_rules.specs.Functions.{Function, GuardedCase}
 use Rattle.fn_rules.specs.Functions.{is_declared_pair}
 use Rattle.ot_model.specs.Kinds.{is_same_kind}
-use Rattle.fn_rules.specs.Validity.{is_offset, has_valid_atoms, atoms_of, nesting_of, is_valid_res, is_valid_case, are_valid_cases}
-use Rattle.fn_rules.specs.Validity.{compares_chars, is_valid_block, is_valid}
+use Rattle.fn_rules.specs.Validity.{is_offset, has_valid_atoms, atoms_of, nesting_of, is_valid_res, is_valid_case}
+use Rattle.fn_rules.specs.Validity.{are_valid_cases, compares_chars, is_valid_block, is_valid}
 use Rattle.fn_rules.specs.Building.{PairCases, is_for, cases_in, function_from, has_own_block, is_buildable}
 use Rattle.fn_tokens.specs.declared.token.Sign.{Sign}
 use Rattle.fn_tokens.specs.declared.token.Sign.TheVariants as signs
-use Rattle.fn_moves.specs.declared.language.Language.{Language}
-use Rattle.fn_moves.specs.declared.control.Written.{Written}
-use Rattle.fn_moves.specs.declared.control.Written.TheVariants as written
-use Rattle.fn_moves.specs.Meaning.{res_of, signed, to_formulas}
-use Rattle.fn_grammar.specs.Grammar.{Phrase, Always, Compare, Shifted, Negated, Round, One, Both, Single, Either, made, atoms_in}
-use Rattle.fn_grammar.specs.Grammar.{nesting_in, is_allowed_phrase, WrittenCase, WrittenBlock, case_made, block_made, is_allowed_result}
-use Rattle.fn_grammar.specs.Grammar.{is_allowed_case, is_allowed_block, is_allowed_file, IsTextOf}
+use Rattle.fn_tokens.specs.declared.language.Language.{Language}
+use Rattle.fn_tokens.specs.declared.control.Written.{Written}
+use Rattle.fn_tokens.specs.declared.control.Written.TheVariants as written
+use Rattle.fn_tokens.specs.Meaning.{res_of, signed, to_formulas}
+use Rattle.fn_grammar.specs.Grammar.{Phrase, Always, Compare, Shifted, Negated, Round, One, Both, Single, Either, made}
+use Rattle.fn_grammar.specs.Grammar.{atoms_in, nesting_in, is_allowed_phrase, WrittenCase, WrittenBlock, case_made}
+use Rattle.fn_grammar.specs.Grammar.{block_made, is_allowed_result, is_allowed_case, is_allowed_block, is_allowed_file}
+use Rattle.fn_grammar.specs.Grammar.{IsTextOf}
 use Rattle.fn_rules.proofs.LimitsKept.{each_pair_true}
 use Rattle.fn_grammar.proofs.KindLists.{each_pair_from, same_pair}
 
@@ -87,10 +88,12 @@ atoms_kept (Either d c) = let left = atoms_kept d in let right = atoms_kept c in
 offset_kept : (sign : Sign) (n : ℕ) → nat_le n 99 ≡ true → is_offset (signed sign n) ≡ true
 offset_kept signs.Plus n h = h
 offset_kept signs.Minus zero h = refl
-offset_kept signs.Minus (suc n) h = let few : suc n ≤ 99 = leb-true _ _ h in and_from _ _ (le-leb n 98 (omega (arith, few))) refl
+offset_kept signs.Minus (suc n) h = let few : suc n ≤ 99 = leb-true _ _ h in
+    and_from _ _ (le-leb n 98 (omega (arith, few))) refl
 
 -- the atoms of an allowed phrase are valid in its formula
-atoms_valid : {t : Tightness} (chars : Bool) (p : Phrase t) → is_allowed_phrase chars p ≡ true → has_valid_atoms chars (made to_formulas p) ≡ true
+atoms_valid : {t : Tightness} (chars : Bool) (p : Phrase t) → is_allowed_phrase chars p ≡ true
+    → has_valid_atoms chars (made to_formulas p) ≡ true
 atoms_valid chars Always h = refl
 atoms_valid chars (Compare Pos left cmp) h = refl
 atoms_valid chars (Compare Site left cmp) h = refl
@@ -100,10 +103,12 @@ atoms_valid chars (Negated u) h = atoms_valid chars u h
 atoms_valid chars (Round d) h = atoms_valid chars d h
 atoms_valid chars (One u) h = atoms_valid chars u h
 atoms_valid chars (Both c u) h =
-    and_from _ _ (atoms_valid chars c (and_parts _ _ h).0) (atoms_valid chars u (and_parts (is_allowed_phrase chars c) _ h).1)
+    and_from _ _ (atoms_valid chars c (and_parts _ _ h).0)
+    (atoms_valid chars u (and_parts (is_allowed_phrase chars c) _ h).1)
 atoms_valid chars (Single c) h = atoms_valid chars c h
 atoms_valid chars (Either d c) h =
-    and_from _ _ (atoms_valid chars d (and_parts _ _ h).0) (atoms_valid chars c (and_parts (is_allowed_phrase chars d) _ h).1)
+    and_from _ _ (atoms_valid chars d (and_parts _ _ h).0)
+    (atoms_valid chars c (and_parts (is_allowed_phrase chars d) _ h).1)
 
 result_kept : (w : Written) → is_allowed_result w ≡ true → is_valid_res (res_of w) ≡ true
 result_kept written.Nop h = refl
@@ -111,9 +116,11 @@ result_kept (written.At side) h = refl
 result_kept (written.Moved side sign n) h = offset_kept sign n h
 
 within_kept : (a b limit : ℕ) → a ≤ b → nat_le b limit ≡ true → nat_le a limit ≡ true
-within_kept a b limit less h = let within : b ≤ limit = leb-true b limit h in le-leb a limit (omega (arith, less, within))
+within_kept a b limit less h = let within : b ≤ limit = leb-true b limit h in
+    le-leb a limit (omega (arith, less, within))
 
-case_kept : (chars : Bool) (c : WrittenCase) → is_allowed_case chars c ≡ true → is_valid_case chars (case_made to_formulas c) ≡ true
+case_kept : (chars : Bool) (c : WrittenCase) → is_allowed_case chars c ≡ true
+    → is_valid_case chars (case_made to_formulas c) ≡ true
 case_kept chars c h =
     let front = (and_parts _ _ h).0 in
     and_from _ _ (and_from _ _
@@ -125,7 +132,8 @@ cases_kept : (chars : Bool) (cs : List WrittenCase) → list_all (is_allowed_cas
     list_all (is_valid_case chars) (map (case_made to_formulas) cs) ≡ true
 cases_kept chars [] h = refl
 cases_kept chars (c ∷ cs) h =
-    and_from _ _ (case_kept chars c (and_parts _ _ h).0) (cases_kept chars cs (and_parts (is_allowed_case chars c) _ h).1)
+    and_from _ _ (case_kept chars c (and_parts _ _ h).0)
+    (cases_kept chars cs (and_parts (is_allowed_case chars c) _ h).1)
 
 block_kept : (block : WrittenBlock) → is_allowed_block block ≡ true →
     are_valid_cases (compares_chars block.first block.second) (map (case_made to_formulas) block.cases) ≡ true
@@ -134,8 +142,8 @@ block_kept block h =
     ∙ (and_parts _ _ h).0) (cases_kept _ block.cases (and_parts _ _ h).1)
 
 -- the cases of a block count for its own pair
-picked : (first second k l : Kind) (mine others : List GuardedCase) → are_valid_cases (compares_chars first second) mine ≡ true →
-    are_valid_cases (compares_chars k l) others ≡ true →
+picked : (first second k l : Kind) (mine others : List GuardedCase)
+    → are_valid_cases (compares_chars first second) mine ≡ true → are_valid_cases (compares_chars k l) others ≡ true →
     are_valid_cases (compares_chars k l) (cond (is_same_kind first k && is_same_kind second l) mine others) ≡ true
 picked first second k l mine others h i =
     elim (cases_Bool (is_same_kind first k && is_same_kind second l)) [
@@ -164,7 +172,8 @@ no_block (block ∷ blocks) k l e =
     (sym (sum_by-cons (λ x. cond (is_for k l x) 1 0) block blocks) ∙ e) (no_block blocks k l)
 
 declared_or_none : (declared : Bool) (blocks : List PairCases) (k l : Kind) →
-    nat_eq (count_by (is_for k l) blocks) (cond declared 1 0) ≡ true → (declared || nat_eq (length (cases_in blocks k l)) 0) ≡ true
+    nat_eq (count_by (is_for k l) blocks) (cond declared 1 0) ≡ true
+    → (declared || nat_eq (length (cases_in blocks k l)) 0) ≡ true
 declared_or_none true blocks k l h = refl
 declared_or_none false blocks k l h =
     let none : count_by (is_for k l) blocks ≡ 0 = search (rules, nat_tests) in
@@ -175,7 +184,8 @@ valid_pair : (head : Head) (blocks : List WrittenBlock) (k l : Kind) → list_al
     (are_valid_cases (compares_chars k l) (cases_in (map (block_made to_formulas) blocks) k l)
     && (is_declared_pair head k l || nat_eq (length (cases_in (map (block_made to_formulas) blocks) k l)) 0)) ≡ true
 valid_pair head blocks k l h own =
-    and_from _ _ (pair_kept blocks k l h) (declared_or_none (is_declared_pair head k l) (map (block_made to_formulas) blocks) k l own)
+    and_from _ _ (pair_kept blocks k l h)
+    (declared_or_none (is_declared_pair head k l) (map (block_made to_formulas) blocks) k l own)
 
 -- the limits of the grammar keep the function within its own
 pub allowed_file_is_buildable : (language : Language) (head : Head) (blocks : List WrittenBlock) →
@@ -187,7 +197,8 @@ allowed_file_is_buildable language head blocks h =
     let own = (and_parts _ _ front).1 in
     and_from _ _ own (and_from _ _ (and_parts _ _ front).0
     (each_pair_from (is_valid_block (function_from head (map (block_made to_formulas) blocks)))
-    (λ k l. valid_pair head blocks k l each (each_pair_true (has_own_block head (map (block_made to_formulas) blocks)) k l own))))
+    (λ k l. valid_pair head blocks k l each
+    (each_pair_true (has_own_block head (map (block_made to_formulas) blocks)) k l own))))
 
 -- a text is of a function within the limits
 pub text_is_valid : (bytes : List ℕ) (f : Function) → IsTextOf bytes f → IsTrue (is_valid f)

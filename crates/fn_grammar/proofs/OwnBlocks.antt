@@ -10,7 +10,7 @@ use Rattle.fn_rules.specs.declared.function.Head.{Head}
 use Rattle.fn_rules.specs.Functions.{is_declared_pair}
 use Rattle.fn_rules.specs.Building.{PairCases, is_for, has_own_block, has_own_blocks}
 use Rattle.fn_rules.proofs.LimitsKept.{each_pair_true}
-use Rattle.fn_moves.specs.Meaning.{to_formulas}
+use Rattle.fn_tokens.specs.Meaning.{to_formulas}
 use Rattle.fn_grammar.specs.Grammar.{WrittenBlock, block_made}
 
 -- a head by its parts
@@ -36,7 +36,8 @@ one_more : (here : Bool) (n : ℕ) → cond here (1 + n) n ≡ cond here 1 0 + n
 one_more true n = refl
 one_more false n = omega arith
 
-pairs_for-made : (k l : Kind) (blocks : List WrittenBlock) → pairs_for k l (map (block_made to_formulas) blocks) ≡ written_for k l blocks
+pairs_for-made : (k l : Kind) (blocks : List WrittenBlock)
+    → pairs_for k l (map (block_made to_formulas) blocks) ≡ written_for k l blocks
 pairs_for-made k l [] = refl
 pairs_for-made k l (block ∷ others) =
     one_more (is_written_for k l block) (pairs_for k l (map (block_made to_formulas) others))
@@ -45,14 +46,17 @@ pairs_for-made k l (block ∷ others) =
 pub count_by-made : (k l : Kind) (blocks : List WrittenBlock) →
     count_by (is_for k l) (map (block_made to_formulas) blocks) ≡ written_for k l blocks
 count_by-made k l blocks =
-    sym (is_count_by (pairs_for k l) (is_for k l) refl (λ x xs. refl) (map (block_made to_formulas) blocks)) ∙ pairs_for-made k l blocks
+    sym (is_count_by (pairs_for k l) (is_for k l) refl (λ x xs. refl) (map (block_made to_formulas) blocks))
+    ∙ pairs_for-made k l blocks
 
 own_block : (head : Head) (blocks : List WrittenBlock) (k l : Kind) →
-    has_own_block head (map (block_made to_formulas) blocks) k l ≡ true → written_for k l blocks ≡ cond (is_declared_pair head k l) 1 0
+    has_own_block head (map (block_made to_formulas) blocks) k l ≡ true
+    → written_for k l blocks ≡ cond (is_declared_pair head k l) 1 0
 own_block head blocks k l h = sym (count_by-made k l blocks) ∙ eqb-true _ _ h
 
 -- a pair has its own block
 pub own_block_of : (head : Head) (blocks : List WrittenBlock) (k l : Kind) →
-    has_own_blocks head (map (block_made to_formulas) blocks) ≡ true → written_for k l blocks ≡ cond (is_declared_pair head k l) 1 0
+    has_own_blocks head (map (block_made to_formulas) blocks) ≡ true
+    → written_for k l blocks ≡ cond (is_declared_pair head k l) 1 0
 own_block_of head blocks k l h =
     own_block head blocks k l (each_pair_true (has_own_block head (map (block_made to_formulas) blocks)) k l h)

@@ -21,14 +21,14 @@ use Rattle.fn_tokens.specs.declared.token.Token.TheVariants.{Known, Number, Comp
 use Rattle.fn_tokens.specs.declared.token.Token.TheVariants.{FileEnd}
 use Rattle.fn_tokens.specs.declared.token.Token.TheVariants as tokens
 use Rattle.fn_tokens.specs.declared.token.Sign.{Sign}
-use Rattle.fn_moves.specs.declared.control.Written.{Written}
-use Rattle.fn_moves.specs.declared.control.Written.TheVariants as written
+use Rattle.fn_tokens.specs.declared.control.Written.{Written}
+use Rattle.fn_tokens.specs.declared.control.Written.TheVariants as written
 use Rattle.fn_tokens.specs.Tokens.{tokens_in, bare}
-use Rattle.fn_moves.specs.declared.language.Language.{Language}
-use Rattle.fn_moves.specs.Languages.{has_words}
-use Rattle.fn_moves.specs.Kinds.{declares_some}
+use Rattle.fn_tokens.specs.declared.language.Language.{Language}
+use Rattle.fn_tokens.specs.Languages.{has_words}
+use Rattle.fn_tokens.specs.Kinds.{declares_some}
 use Rattle.fn_grammar.specs.Print.{head_tokens}
-use Rattle.fn_moves.specs.Meaning.{Maker, is_offset_number, may_compare, to_formulas}
+use Rattle.fn_tokens.specs.Meaning.{Maker, is_offset_number, may_compare, to_formulas}
 
 -- a guard as it is written, by how tightly it holds together: tight phrases are operands of `not` and
 -- `and`, joined ones are operands of `or`, and loose ones stand alone or in parentheses; operators group

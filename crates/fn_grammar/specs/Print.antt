@@ -19,8 +19,8 @@ use Rattle.fn_tokens.specs.declared.token.Token.TheVariants.{LineEnd}
 use Rattle.fn_tokens.specs.declared.token.Word.{Word}
 use Rattle.fn_tokens.specs.declared.token.Word.TheVariants as words
 use Rattle.fn_tokens.specs.Spelling.{spelled}
-use Rattle.fn_moves.specs.declared.language.Language.{Language}
-use Rattle.fn_moves.specs.Languages.{number_of, language_for}
+use Rattle.fn_tokens.specs.declared.language.Language.{Language}
+use Rattle.fn_tokens.specs.Languages.{number_of, language_for}
 use Rattle.fn_rules.specs.declared.guard.Tightness.{Tightness}
 use Rattle.fn_rules.specs.declared.guard.Tightness.TheVariants.{Loose, Joined, Tight}
 

@@ -7,7 +7,7 @@ use Rattle.fn_rules.specs.Validity.{is_valid}
 use Rattle.fn_tokens.specs.declared.token.Token.{Token}
 use Rattle.fn_tokens.specs.declared.token.Token.TheVariants.{Open, FileEnd}
 use Rattle.fn_tokens.specs.Tokens.{tokens_in, bare}
-use Rattle.fn_moves.specs.Meaning.{to_formulas}
+use Rattle.fn_tokens.specs.Meaning.{to_formulas}
 use Rattle.fn_grammar.specs.Print.{guard_tokens, function_tokens, printed}
 use Rattle.fn_grammar.specs.Grammar.{Phrase, written_as, made, IsTextOf}
 

@@ -6,7 +6,7 @@ ghost use Rattle.fn_rules.specs.Formulas.{formula_of, other_side};
 ghost use Rattle.fn_rules.specs.Functions.{case_of, cases_of, is_declared_pair};
 ghost use Rattle.fn_rules.specs.Rules.{function_of};
 ghost use Rattle.fn_rules.specs.Validity.{is_valid};
-ghost use Rattle.fn_moves.specs.Languages.{language_for};
+ghost use Rattle.fn_tokens.specs.Languages.{language_for};
 ghost use Rattle.fn_grammar.specs.Print.{offset_tokens, atom_tokens, guard_tokens, result_tokens, case_tokens};
 ghost use Rattle.fn_grammar.specs.Print.{block_tokens, clause_tokens, kind_tokens, printed_case};
 ghost use Rattle.fn_grammar.specs.Print.{declared_block, blocks_with, function_tokens, printed, head_tokens};
@@ -16,9 +16,8 @@ ghost use Rattle.fn_grammar.specs.Grammar.{IsTextOf};
 ghost use Rattle.fn_grammar.specs.Offsets.{HasOffset, HasOffsets, HasResultOffset, HasCaseOffsets};
 
 use crate::NoMemory;
-use fn_moves::Language;
 use fn_rules::{Atom, Case, Guard, Head, Res, Rules, Side, Sort, Tightness, rules_are_valid};
-use fn_tokens::{Sign, Token, Word, spell};
+use fn_tokens::{Language, Sign, Token, Word, spell};
 use ot_model::{KINDS, Kind, Mode};
 use std::alloc::Global;
 

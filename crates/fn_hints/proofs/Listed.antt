@@ -13,15 +13,15 @@ use Rattle.fn_tokens.specs.declared.token.Token.TheVariants.{Colon, LineEnd, Fil
 use Rattle.fn_tokens.specs.declared.token.Token.TheVariants as tokens
 use Rattle.fn_tokens.specs.declared.token.Word.TheVariants as words
 use Rattle.fn_tokens.specs.declared.token.Placed.{Placed}
-use Rattle.fn_moves.specs.declared.control.Want.{Want}
-use Rattle.fn_moves.specs.declared.control.Want.TheVariants as wants
-use Rattle.fn_moves.specs.declared.control.Control.{Control}
-use Rattle.fn_moves.specs.declared.control.TokenMove.{TokenMove}
-use Rattle.fn_moves.specs.declared.language.Language.{Language}
-use Rattle.fn_moves.specs.Languages.{language_numbered}
-use Rattle.fn_moves.specs.Meaning.{is_offset_number}
-use Rattle.fn_moves.specs.Controls.{allowed}
-use Rattle.fn_moves.specs.Moves.{move_for}
+use Rattle.fn_tokens.specs.declared.control.Want.{Want}
+use Rattle.fn_tokens.specs.declared.control.Want.TheVariants as wants
+use Rattle.fn_tokens.specs.declared.control.Control.{Control}
+use Rattle.fn_tokens.specs.declared.control.TokenMove.{TokenMove}
+use Rattle.fn_tokens.specs.declared.language.Language.{Language}
+use Rattle.fn_tokens.specs.Languages.{language_numbered}
+use Rattle.fn_tokens.specs.Meaning.{is_offset_number}
+use Rattle.fn_tokens.specs.Controls.{allowed}
+use Rattle.fn_tokens.specs.Moves.{move_for}
 use Rattle.fn_text.specs.declared.wrong.WrongToken.{WrongToken}
 use Rattle.fn_hints.specs.declared.standing.TheConstants.{TOKENS}
 use Rattle.fn_hints.specs.Standing.{can_stand, tokens_at, numbers_at, has_number, MayStand}

@@ -7,9 +7,9 @@ use Rattle.fn_rules.specs.Building.{PairCases}
 use Rattle.fn_tokens.specs.declared.token.Placed.{Placed}
 use Rattle.fn_tokens.specs.Tokens.{tokens_in, EndsFile}
 use Rattle.fn_tokens.proofs.Ends.{file_ends}
-use Rattle.fn_moves.specs.declared.fault.TextFault.{TextFault}
-use Rattle.fn_moves.specs.Meaning.{to_formulas}
-use Rattle.fn_moves.specs.Faults.{fault_of}
+use Rattle.fn_tokens.specs.declared.fault.TextFault.{TextFault}
+use Rattle.fn_tokens.specs.Meaning.{to_formulas}
+use Rattle.fn_tokens.specs.Faults.{fault_of}
 use Rattle.fn_text.specs.declared.wrong.WrongToken.{WrongToken}
 use Rattle.fn_text.specs.Reader.{first_state, read_from, turn}
 use Rattle.fn_text.specs.Reading.{function_in, built_from}

@@ -7,10 +7,10 @@ use Rattle.fn_rules.specs.Building.{PairCases}
 use Rattle.fn_tokens.specs.declared.token.Token.{Token}
 use Rattle.fn_tokens.specs.declared.token.Placed.{Placed}
 use Rattle.fn_tokens.specs.Tokens.{bare, tokens_in}
-use Rattle.fn_moves.specs.declared.control.TokenMove.{TokenMove}
-use Rattle.fn_moves.specs.declared.fault.TextFault.{TextFault}
-use Rattle.fn_moves.specs.Meaning.{Formulas, to_formulas}
-use Rattle.fn_moves.specs.Moves.{move_for}
+use Rattle.fn_tokens.specs.declared.control.TokenMove.{TokenMove}
+use Rattle.fn_tokens.specs.declared.fault.TextFault.{TextFault}
+use Rattle.fn_tokens.specs.Meaning.{Formulas, to_formulas}
+use Rattle.fn_tokens.specs.Moves.{move_for}
 use Rattle.fn_text.specs.declared.wrong.WrongToken.{WrongToken}
 use Rattle.fn_text.specs.GoingOn.{CanGoOn}
 use Rattle.fn_text.specs.Reader.{State, after_move, first_state, moved}

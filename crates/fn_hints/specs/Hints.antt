@@ -2,8 +2,8 @@
 use Rattle.std.specs.Prelude.{◌≡◌, ℕ, List, Option, Some, None, option_map, Ok, Err}
 use Rattle.fn_rules.specs.Functions.{Function}
 use Rattle.fn_tokens.specs.declared.token.Token.{Token}
-use Rattle.fn_moves.specs.declared.fault.TextFault.{TextFault}
-use Rattle.fn_moves.specs.Faults.{fault_of}
+use Rattle.fn_tokens.specs.declared.fault.TextFault.{TextFault}
+use Rattle.fn_tokens.specs.Faults.{fault_of}
 use Rattle.fn_text.specs.declared.wrong.WrongToken.{WrongToken}
 use Rattle.fn_text.specs.Reading.{function_in}
 use Rattle.fn_text.specs.Wrong.{wrong_in}

@@ -8,10 +8,10 @@ use Rattle.fn_rules.specs.declared.guard.Cmp.TheVariants.{Eq}
 use Rattle.fn_tokens.specs.declared.token.Token.{Token}
 use Rattle.fn_tokens.specs.declared.token.Token.TheVariants.{Byte, Known, Number, Comparison, Sign}
 use Rattle.fn_tokens.specs.declared.token.Word.TheVariants as words
-use Rattle.fn_moves.specs.declared.control.Want.{Want}
-use Rattle.fn_moves.specs.declared.control.Want.TheVariants as wants
-use Rattle.fn_moves.specs.declared.control.Control.{Control}
-use Rattle.fn_moves.specs.Controls.{lacks, lacks_with}
+use Rattle.fn_tokens.specs.declared.control.Want.{Want}
+use Rattle.fn_tokens.specs.declared.control.Want.TheVariants as wants
+use Rattle.fn_tokens.specs.declared.control.Control.{Control}
+use Rattle.fn_tokens.specs.Controls.{lacks, lacks_with}
 use Rattle.fn_text.specs.declared.wrong.WrongToken.{WrongToken}
 use Rattle.fn_hints.specs.declared.slip.Slip.{Slip}
 use Rattle.fn_hints.specs.declared.slip.Slip.TheVariants as slips

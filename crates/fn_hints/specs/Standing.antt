@@ -5,11 +5,11 @@ use Rattle.fn_tokens.specs.declared.token.Token.{Token}
 use Rattle.fn_tokens.specs.declared.token.Token.TheVariants as kinds
 use Rattle.fn_tokens.specs.declared.token.Placed.{Placed}
 use Rattle.fn_tokens.specs.Tokens.{bare, tokens_in}
-use Rattle.fn_moves.specs.declared.control.Want.{Want}
-use Rattle.fn_moves.specs.declared.control.Want.TheVariants as wants
-use Rattle.fn_moves.specs.Languages.{language_numbered}
-use Rattle.fn_moves.specs.Meaning.{is_offset_number}
-use Rattle.fn_moves.specs.Moves.{move_for}
+use Rattle.fn_tokens.specs.declared.control.Want.{Want}
+use Rattle.fn_tokens.specs.declared.control.Want.TheVariants as wants
+use Rattle.fn_tokens.specs.Languages.{language_numbered}
+use Rattle.fn_tokens.specs.Meaning.{is_offset_number}
+use Rattle.fn_tokens.specs.Moves.{move_for}
 use Rattle.fn_text.specs.declared.wrong.WrongToken.{WrongToken}
 use Rattle.fn_text.specs.GoingOn.{CanGoOn}
 use Rattle.fn_text.specs.Wrong.{wrong_in}

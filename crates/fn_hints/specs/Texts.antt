@@ -6,8 +6,8 @@ use Rattle.fn_tokens.specs.declared.token.Token.TheVariants as kinds
 use Rattle.fn_tokens.specs.declared.token.Word.TheVariants.{Kind}
 use Rattle.fn_tokens.specs.Words.{spelling_of}
 use Rattle.fn_tokens.specs.Spelling.{spelled}
-use Rattle.fn_moves.specs.declared.fault.FaultKind.{FaultKind}
-use Rattle.fn_moves.specs.declared.fault.FaultKind.TheVariants as faults
+use Rattle.fn_tokens.specs.declared.fault.FaultKind.{FaultKind}
+use Rattle.fn_tokens.specs.declared.fault.FaultKind.TheVariants as faults
 use Rattle.fn_hints.specs.declared.slip.Slip.{Slip}
 use Rattle.fn_hints.specs.declared.slip.Slip.TheVariants as slips
 use Rattle.fn_hints.specs.declared.standing.Numbers.{Numbers}

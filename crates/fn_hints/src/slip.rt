@@ -2,13 +2,13 @@
 
 ghost use Rattle.std.specs.Prelude.{◌≡◌, find, slice_index};
 ghost use Rattle.ot_model.specs.declared.op.TheConstants.{KINDS};
-ghost use Rattle.fn_moves.specs.Controls.{lacks, lacks_with};
+ghost use Rattle.fn_tokens.specs.Controls.{lacks, lacks_with};
 ghost use Rattle.fn_hints.specs.Slips.{greater_slip, pair_slip, byte_slip, missing_with, missing_block};
 ghost use Rattle.fn_hints.specs.Slips.{token_slip, slip_by, slip_in};
 
-use fn_moves::{Control, Want};
 use fn_rules::{Cmp, Sort};
 use fn_text::{Token, Word, WrongToken};
+use fn_tokens::{Control, Want};
 use ot_model::{KINDS, Kind};
 
 /// A usual slip.

@@ -3,9 +3,9 @@
 ghost use Rattle.std.specs.Prelude.{◌≡◌, IfOk};
 ghost use Rattle.fn_hints.specs.Standing.{can_stand, tokens_at, numbers_at};
 
-use fn_moves::Want;
 use fn_rules::{Cmp, Side, Sort};
 use fn_text::{NoMemory, Placed, Sign, Token, Word, WrongToken};
+use fn_tokens::Want;
 use ot_model::{Kind, Mode};
 use std::alloc::Global;
 

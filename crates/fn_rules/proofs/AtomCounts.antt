@@ -18,7 +18,8 @@ pub block_atoms-function : (f : Function) (k l : Kind) → block_atoms (cases_of
 block_atoms-function f k l =
     let listed = Contains-pair k l in
     subst (λ (kinds : Kind × Kind). block_atoms (cases_of f kinds.0 kinds.1) ≤ function_atoms f) listed.2
-    (get_or-le-sum_by (λ (kinds : Kind × Kind). block_atoms (cases_of f kinds.0 kinds.1)) kind_pairs listed.0 (k, l) listed.1)
+    (get_or-le-sum_by (λ (kinds : Kind × Kind). block_atoms (cases_of f kinds.0 kinds.1)) kind_pairs
+    listed.0 (k, l) listed.1)
 
 -- those of the first case and those of the others
 pub block_atoms-cons :

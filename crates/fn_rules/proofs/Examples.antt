@@ -23,7 +23,8 @@ use Rattle.ot_model.specs.declared.op.Mode.TheVariants.{Plain}
 use Rattle.fn_rules.specs.Properties.{AreConcurrent, ConvergesAt, CommutesAt}
 use Rattle.fn_rules.specs.Orders.{Document, StuckAt, through, integrated}
 use Rattle.fn_rules.specs.Obligations.{obligations_of}
-use Rattle.fn_rules.specs.Shipped.{p1_to_p2, when, p1_plus, block, stays, ttf, sites, offby, twice, ties, far, marks, ttfu, lastu}
+use Rattle.fn_rules.specs.Shipped.{p1_to_p2, when, p1_plus, block, stays, ttf, sites, offby, twice, ties, far, marks}
+use Rattle.fn_rules.specs.Shipped.{ttfu, lastu}
 
 -- insertions of x, y and z, and deletions, each at a position and from a site
 abbrev x_at : ℕ → ℕ → Op
@@ -84,7 +85,8 @@ one_cell_is_deleted_once = refl
 one_cell_is_deleted_twice : transform_of twice (del_at 2 1) (del_at 2 2) ≡ Some (del_at 2 1)
 one_cell_is_deleted_twice = refl
 
-at_position_0_a_second_deletion_leaves_the_document : transform_of twice (del_at 1 1) (del_at 0 2) ≡ Some (Del (pos 0) 1)
+at_position_0_a_second_deletion_leaves_the_document :
+    transform_of twice (del_at 1 1) (del_at 0 2) ≡ Some (Del (pos 0) 1)
 at_position_0_a_second_deletion_leaves_the_document = refl
 
 -- nop on either side
@@ -135,9 +137,11 @@ the_puzzle_breaks_tp2 both =
     let c_after_b : y_at 1 3 ≡ both.c_after_b = cc in
     let a_after_b : x_at 1 1 ≡ both.a_after_b = cc in
     let one_way : Some (y_at 1 3) ≡ Some both.c_after_both =
-    same_transformed (y_at 1 3) both.c_after_a (del_at 1 2) both.b_after_a both.c_after_both c_after_a b_after_a both.c_by_a_then_b in
+    same_transformed (y_at 1 3) both.c_after_a (del_at 1 2) both.b_after_a both.c_after_both c_after_a
+    b_after_a both.c_by_a_then_b in
     let other_way : Some (y_at 2 3) ≡ Some both.c_after_both =
-    same_transformed (y_at 1 3) both.c_after_b (x_at 1 1) both.a_after_b both.c_after_both c_after_b a_after_b both.c_by_b_then_a in
+    same_transformed (y_at 1 3) both.c_after_b (x_at 1 1) both.a_after_b both.c_after_both c_after_b
+    a_after_b both.c_by_b_then_a in
     cc
 
 -- `ttf` commutes there
@@ -157,17 +161,20 @@ the_puzzle_with_tombstones = record {
 }
 
 -- integrating in an order
-two_letters_in_one_order : integrated sites [] (x_at 0 1 ∷ y_at 0 2 ∷ []) (0 ∷ 1 ∷ []) ≡ Document (live_cell 120 ∷ live_cell 121 ∷ [])
+two_letters_in_one_order : integrated sites [] (x_at 0 1 ∷ y_at 0 2 ∷ []) (0 ∷ 1 ∷ [])
+    ≡ Document (live_cell 120 ∷ live_cell 121 ∷ [])
 two_letters_in_one_order = refl
 
-two_letters_in_the_other_order : integrated sites [] (x_at 0 1 ∷ y_at 0 2 ∷ []) (1 ∷ 0 ∷ []) ≡ Document (live_cell 120 ∷ live_cell 121 ∷ [])
+two_letters_in_the_other_order : integrated sites [] (x_at 0 1 ∷ y_at 0 2 ∷ []) (1 ∷ 0 ∷ [])
+    ≡ Document (live_cell 120 ∷ live_cell 121 ∷ [])
 two_letters_in_the_other_order = refl
 
 two_letters_are_stuck : integrated ties [] (x_at 0 1 ∷ y_at 0 2 ∷ []) (1 ∷ 0 ∷ []) ≡ StuckAt 1
 two_letters_are_stuck = refl
 
 -- obligations
-obligations_of_insertions : obligations_of ties.head Tp2 ≡ Pair kinds.Ins kinds.Ins ∷ Triple kinds.Ins kinds.Ins kinds.Ins ∷ []
+obligations_of_insertions : obligations_of ties.head Tp2
+    ≡ Pair kinds.Ins kinds.Ins ∷ Triple kinds.Ins kinds.Ins kinds.Ins ∷ []
 obligations_of_insertions = refl
 
 obligations_of_deletions : obligations_of marks.head Tp1 ≡ Pair kinds.Del kinds.Del ∷ []
@@ -181,10 +188,12 @@ the_pairs_of_three_kinds : obligations_of ttfu.head Tp1 ≡
     ∷ Pair kinds.Del kinds.Del ∷ Pair kinds.Del kinds.Upd ∷ Pair kinds.Upd kinds.Upd ∷ []
 the_pairs_of_three_kinds = refl
 
-triples_with_insertions_come_first : slice_get (obligations_of ttfu.head Tp2) 11 ≡ Some (Triple kinds.Upd kinds.Upd kinds.Ins)
+triples_with_insertions_come_first : slice_get (obligations_of ttfu.head Tp2) 11
+    ≡ Some (Triple kinds.Upd kinds.Upd kinds.Ins)
 triples_with_insertions_come_first = refl
 
-triples_with_updates_come_last : slice_get (obligations_of ttfu.head Tp2) 18 ≡ Some (Triple kinds.Ins kinds.Ins kinds.Upd)
+triples_with_updates_come_last : slice_get (obligations_of ttfu.head Tp2) 18
+    ≡ Some (Triple kinds.Ins kinds.Ins kinds.Upd)
 triples_with_updates_come_last = refl
 
 obligations_of_three_kinds : length (obligations_of ttfu.head Tp2) ≡ 24
@@ -197,11 +206,13 @@ an_insertion_moves_an_update_up = refl
 the_greater_site_yields_at_one_cell : transform_of ttfu (upd_at 2 2) (upd_at 2 1) ≡ Some Nop
 the_greater_site_yields_at_one_cell = refl
 
-both_update_the_deleted_cell : integrated ttfu (live_cell 121 ∷ live_cell 122 ∷ []) (Upd (pos 0) 97 1 ∷ Upd (pos 0) 98 2 ∷ del_at 0 3 ∷ []) (0 ∷ 1 ∷ 2 ∷ [])
+both_update_the_deleted_cell : integrated ttfu (live_cell 121 ∷ live_cell 122 ∷ [])
+    (Upd (pos 0) 97 1 ∷ Upd (pos 0) 98 2 ∷ del_at 0 3 ∷ []) (0 ∷ 1 ∷ 2 ∷ [])
     ≡ Document (dead_cell (live_cell 97) ∷ live_cell 122 ∷ [])
 both_update_the_deleted_cell = refl
 
-the_other_way_round_too : integrated ttfu (live_cell 121 ∷ live_cell 122 ∷ []) (Upd (pos 0) 97 1 ∷ Upd (pos 0) 98 2 ∷ del_at 0 3 ∷ []) (2 ∷ 1 ∷ 0 ∷ [])
+the_other_way_round_too : integrated ttfu (live_cell 121 ∷ live_cell 122 ∷ [])
+    (Upd (pos 0) 97 1 ∷ Upd (pos 0) 98 2 ∷ del_at 0 3 ∷ []) (2 ∷ 1 ∷ 0 ∷ [])
     ≡ Document (dead_cell (live_cell 97) ∷ live_cell 122 ∷ [])
 the_other_way_round_too = refl
 
@@ -212,7 +223,8 @@ ttfu_is_valid = refl
 lastu_is_valid : is_valid lastu ≡ true
 lastu_is_valid = refl
 
-updates_and_insertions_may_compare_characters : (compares_chars kinds.Ins kinds.Upd ≡ true) × (compares_chars kinds.Upd kinds.Del ≡ false)
+updates_and_insertions_may_compare_characters : (compares_chars kinds.Ins kinds.Upd ≡ true)
+    × (compares_chars kinds.Upd kinds.Del ≡ false)
 updates_and_insertions_may_compare_characters = (refl, refl)
 
 ttf_is_valid : is_valid ttf ≡ true
@@ -230,11 +242,19 @@ far_is_valid = refl
 marks_is_valid : is_valid marks ≡ true
 marks_is_valid = refl
 
-no_kind_is_not_valid : is_valid (function_from (record { mode = Plain; ins = false; del = false; upd = false; sites_differ = false; chars_differ = false }) [])
+no_kind_is_not_valid : is_valid (function_from (record {
+  mode = Plain;
+  ins = false;
+  del = false;
+  upd = false;
+  sites_differ = false;
+  chars_differ = false;
+}) [])
     ≡ false
 no_kind_is_not_valid = refl
 
-cases_of_an_undeclared_pair_are_not_valid : is_valid (function_from ties.head (block kinds.Del kinds.Del stays ∷ [])) ≡ false
+cases_of_an_undeclared_pair_are_not_valid :
+    is_valid (function_from ties.head (block kinds.Del kinds.Del stays ∷ [])) ≡ false
 cases_of_an_undeclared_pair_are_not_valid = refl
 
 the_64th_case_is_valid : are_valid_cases false (replicate 64 (when Always results.Nop)) ≡ true

@@ -1,5 +1,6 @@
 -- What a transformation makes of an operation, and which operations it may be with.
-use Rattle.std.proofs.Common.{◌≡◌, ℕ, ◌+◌, Bool, true, ◌&&◌, List, [], ◌∷◌, Option, Some, None, length, refl, sym, subst, inl, inr, arith}
+use Rattle.std.proofs.Common.{◌≡◌, ℕ, ◌+◌, Bool, true, ◌&&◌, List, [], ◌∷◌, Option, Some, None, length, refl, sym}
+use Rattle.std.proofs.Common.{subst, inl, inr, arith}
 use Rattle.std.specs.Prelude.{ℤ, pos, ◌+ℤ◌, ◌≤ℤ◌, nat_le}
 use Rattle.std.specs.List.{list_all}
 use Rattle.std.proofs.lemmas.Bool.{cases_Bool, and_parts}
@@ -15,7 +16,8 @@ use Rattle.fn_rules.specs.declared.function.Res.TheVariants as results
 use Rattle.fn_rules.specs.declared.limits.TheConstants.{MAX_CASES, MAX_ATOMS, MAX_NESTING}
 use Rattle.fn_rules.specs.Formulas.{of_side, holds_of}
 use Rattle.fn_rules.specs.Functions.{Function, GuardedCase, cases_of}
-use Rattle.fn_rules.specs.Validity.{is_offset, has_valid_atoms, atoms_of, nesting_of, is_valid_res, is_valid_case, compares_chars, is_valid}
+use Rattle.fn_rules.specs.Validity.{is_offset, has_valid_atoms, atoms_of, nesting_of, is_valid_res, is_valid_case}
+use Rattle.fn_rules.specs.Validity.{compares_chars, is_valid}
 use Rattle.fn_rules.specs.Transformation.{result_of, first_result, transform_by_kinds, transform_of, Differ, IsAllowed}
 use Rattle.fn_rules.specs.Conditions.{IsWithin, IsMovedFrom, IsFormOf}
 use Rattle.fn_rules.proofs.LimitsKept.{are_valid_cases-valid}
@@ -62,7 +64,8 @@ IsFormOf-first_result (one ∷ others) a b c is =
       | inr false_here ↦ IsFormOf-first_result others a b c (rw false_here at is)
     ]
 
-IsFormOf-by_kinds : (f : Function) (a b c : Op) (k l : Option Kind) → transform_by_kinds f a b k l ≡ Some c → IsFormOf a c
+IsFormOf-by_kinds : (f : Function) (a b c : Op) (k l : Option Kind)
+    → transform_by_kinds f a b k l ≡ Some c → IsFormOf a c
 IsFormOf-by_kinds f a b c None l is = let gone : c ≡ Nop = cc in inl gone
 IsFormOf-by_kinds f a b c (Some k) None is =
     let same : a ≡ c = cc in
@@ -97,21 +100,24 @@ offset_low m at k small low = grind (arith, ints)
 offset_high : (m : ℕ) (at k : ℤ) → is_offset k ≡ true → at ≤ℤ pos m → (at +ℤ k) ≤ℤ pos (m + 99)
 offset_high m at k small high = grind (arith, ints)
 
-IsWithin-result_of : (m : ℕ) (res : Res) (a b : Op) → is_valid_res res ≡ true → IsWithin m a → IsWithin m b → IsWithin (m + 99) (result_of res a b)
+IsWithin-result_of : (m : ℕ) (res : Res) (a b : Op) → is_valid_res res ≡ true → IsWithin m a → IsWithin m b
+    → IsWithin (m + 99) (result_of res a b)
 IsWithin-result_of m (results.Keep First k) a b small near_a near_b =
-    IsWithin-placed (m + 99) a (at_of a +ℤ k) (offset_low m (at_of a) k small near_a.0) (offset_high m (at_of a) k small near_a.1)
+    IsWithin-placed (m + 99) a (at_of a +ℤ k) (offset_low m (at_of a) k small near_a.0)
+    (offset_high m (at_of a) k small near_a.1)
 IsWithin-result_of m (results.Keep Second k) a b small near_a near_b =
-    IsWithin-placed (m + 99) a (at_of b +ℤ k) (offset_low m (at_of b) k small near_b.0) (offset_high m (at_of b) k small near_b.1)
+    IsWithin-placed (m + 99) a (at_of b +ℤ k) (offset_low m (at_of b) k small near_b.0)
+    (offset_high m (at_of b) k small near_b.1)
 IsWithin-result_of m results.Nop a b small near_a near_b = (omega (arith, ints), omega (arith, ints))
 
 is_valid_res-valid : (chars : Bool) (one : GuardedCase) → is_valid_case chars one ≡ true → is_valid_res one.res ≡ true
 is_valid_res-valid chars one valid =
-    (and_parts (has_valid_atoms chars one.guard && nat_le (atoms_of one.guard) MAX_ATOMS && nat_le (nesting_of Loose one.guard) MAX_NESTING)
-    (is_valid_res one.res) valid).1
+    (and_parts (has_valid_atoms chars one.guard && nat_le (atoms_of one.guard) MAX_ATOMS
+    && nat_le (nesting_of Loose one.guard) MAX_NESTING) (is_valid_res one.res) valid).1
 
 -- the result of the first case that holds is at most 99 further on
-IsWithin-first_result : (m : ℕ) (chars : Bool) (cases : List GuardedCase) (a b c : Op) → list_all (is_valid_case chars) cases ≡ true →
-    IsWithin m a → IsWithin m b → first_result cases a b ≡ Some c → IsWithin (m + 99) c
+IsWithin-first_result : (m : ℕ) (chars : Bool) (cases : List GuardedCase) (a b c : Op) → list_all (is_valid_case chars)
+    cases ≡ true → IsWithin m a → IsWithin m b → first_result cases a b ≡ Some c → IsWithin (m + 99) c
 IsWithin-first_result m chars [] a b c valid near_a near_b is = cc
 IsWithin-first_result m chars (one ∷ others) a b c valid near_a near_b is =
     elim (cases_Bool (holds_of one.guard a b)) [
@@ -119,9 +125,11 @@ IsWithin-first_result m chars (one ∷ others) a b c valid near_a near_b is =
           let same : result_of one.res a b ≡ c = cc in
           subst (λ (o : Op). IsWithin (m + 99) o) same
           (IsWithin-result_of m one.res a b
-          (is_valid_res-valid chars one ((and_parts (is_valid_case chars one) (list_all (is_valid_case chars) others) valid).0)) near_a near_b))
+          (is_valid_res-valid chars one
+          ((and_parts (is_valid_case chars one) (list_all (is_valid_case chars) others) valid).0)) near_a near_b))
       | inr false_here ↦ IsWithin-first_result m chars others a b c
-          ((and_parts (is_valid_case chars one) (list_all (is_valid_case chars) others) valid).1) near_a near_b (rw false_here at is)
+          ((and_parts (is_valid_case chars one) (list_all (is_valid_case chars) others) valid).1) near_a
+          near_b (rw false_here at is)
     ]
 
 -- so is what a transformation makes of an operation
@@ -135,11 +143,12 @@ IsWithin-by_kinds m f a b c (Some k) None valid near_a near_b is =
     subst (λ (o : Op). IsWithin (m + 99) o) same (omega (arith, ints), omega (arith, ints))
 IsWithin-by_kinds m f a b c (Some k) (Some l) valid near_a near_b is =
     IsWithin-first_result m (compares_chars k l) (cases_of f k l) a b c
-    ((and_parts (nat_le (length (cases_of f k l)) MAX_CASES) (list_all (is_valid_case (compares_chars k l)) (cases_of f k l))
-    (are_valid_cases-valid f k l valid)).1)
+    ((and_parts (nat_le (length (cases_of f k l)) MAX_CASES)
+    (list_all (is_valid_case (compares_chars k l)) (cases_of f k l)) (are_valid_cases-valid f k l valid)).1)
     near_a near_b is
 
 -- a position moves by at most 99 from one of the two positions
 pub IsWithin-transform_of : (f : Function) (a b c : Op) (m : ℕ) → is_valid f ≡ true →
     IsWithin m a → IsWithin m b → transform_of f a b ≡ Some c → IsWithin (m + 99) c
-IsWithin-transform_of f a b c m valid near_a near_b is = IsWithin-by_kinds m f a b c (kind_of a) (kind_of b) valid near_a near_b is
+IsWithin-transform_of f a b c m valid near_a near_b is =
+    IsWithin-by_kinds m f a b c (kind_of a) (kind_of b) valid near_a near_b is

@@ -20,12 +20,15 @@ IsForKind-declared head None declared = cc
 IsForKind-declared head (Some k) declared = declared
 
 -- a form is of a kind that the function is for, or nop
-IsForKind-form : (head : Head) (o form : Op) → IsFormOf o form → IsForKind head (kind_of o) → IsForKind head (kind_of form)
+IsForKind-form : (head : Head) (o form : Op) → IsFormOf o form → IsForKind head (kind_of o)
+    → IsForKind head (kind_of form)
 IsForKind-form head o form (inl nop) declared = subst (λ (p : Op). IsForKind head (kind_of p)) (sym nop) refl
-IsForKind-form head o form (inr moved) declared = subst (λ (k : Option Kind). IsForKind head k) (sym moved.kind) declared
+IsForKind-form head o form (inr moved) declared =
+    subst (λ (k : Option Kind). IsForKind head k) (sym moved.kind) declared
 
 -- an operation that may be integrated is nop or of a declared kind
-HasDeclaredKind-or_nop : (head : Head) (o : Op) → IsForKind head (kind_of o) → (o ≡ Nop) ⊎ HasDeclaredKind head (kind_of o)
+HasDeclaredKind-or_nop : (head : Head) (o : Op) → IsForKind head (kind_of o)
+    → (o ≡ Nop) ⊎ HasDeclaredKind head (kind_of o)
 HasDeclaredKind-or_nop head (Ins at ch site) declared = inr declared
 HasDeclaredKind-or_nop head (Del at site) declared = inr declared
 HasDeclaredKind-or_nop head (Upd at ch site) declared = inr declared
@@ -46,7 +49,8 @@ ConvergesAt-nop f d a enabled = record {
 -- the first property holds of forms too
 pub ConvergesOnForms-tp1 : (f : Function) → HasTp1 f → ConvergesOnForms f
 ConvergesOnForms-tp1 f tp1 d a b as_a as_b allowed = elim (HasDeclaredKind-or_nop f.head a as_a.declared) [
-  | inl nop ↦ subst (λ (o : Op). ConvergesAt f d o b) (sym nop) (converges_exchanged f d b Nop (ConvergesAt-nop f d b as_b.enabled))
+  | inl nop ↦ subst (λ (o : Op). ConvergesAt f d o b) (sym nop)
+      (converges_exchanged f d b Nop (ConvergesAt-nop f d b as_b.enabled))
   | inr kind_a ↦ elim (HasDeclaredKind-or_nop f.head b as_b.declared) [
     | inl nop ↦ subst (λ (o : Op). ConvergesAt f d a o) (sym nop) (ConvergesAt-nop f d a as_a.enabled)
     | inr kind_b ↦ tp1 d a b (kind_a, as_a.enabled, (allowed, tt), (kind_b, as_b.enabled, tt, tt))
@@ -89,18 +93,26 @@ CommutesAt-behind_nop f d b c converges = record {
 CommutesAt-integrable : (f : Function) → HasTp2 f → ConvergesOnForms f → (d : List Cell) (a b c : Op)
     → IsIntegrable f (length d) a → IsIntegrable f (length d) b → IsIntegrable f (length d) c
     → IsAllowed f a b → IsAllowed f a c → IsAllowed f b c → CommutesAt f a b c
-CommutesAt-integrable f tp2 converging d a b c as_a as_b as_c a_with_b a_with_c b_with_c = elim (HasDeclaredKind-or_nop f.head c as_c.declared) [
-  | inl nop ↦ subst (λ (o : Op). CommutesAt f a b o) (sym nop) (CommutesAt-nop f d a b (converging d a b as_a as_b a_with_b))
-  | inr kind_c ↦ elim (HasDeclaredKind-or_nop f.head a as_a.declared) [
-    | inl nop ↦ subst (λ (o : Op). CommutesAt f o b c) (sym nop) (CommutesAt-behind_nop f d b c (converging d b c as_b as_c b_with_c))
-    | inr kind_a ↦ elim (HasDeclaredKind-or_nop f.head b as_b.declared) [
-      | inl nop ↦ subst (λ (o : Op). CommutesAt f a o c) (sym nop)
-          (commutes_exchanged f Nop a c (CommutesAt-behind_nop f d a c (converging d a c as_a as_c a_with_c)))
-      | inr kind_b ↦ tp2 d a b c
-          (kind_a, as_a.enabled, (a_with_b, (a_with_c, tt)), (kind_b, as_b.enabled, (b_with_c, tt), (kind_c, as_c.enabled, tt, tt)))
+CommutesAt-integrable f tp2 converging d a b c as_a as_b as_c a_with_b a_with_c b_with_c =
+    elim (HasDeclaredKind-or_nop f.head c as_c.declared) [
+      | inl nop ↦
+          subst (λ (o : Op). CommutesAt f a b o) (sym nop)
+          (CommutesAt-nop f d a b (converging d a b as_a as_b a_with_b))
+      | inr kind_c ↦ elim (HasDeclaredKind-or_nop f.head a as_a.declared) [
+        | inl nop ↦ subst (λ (o : Op). CommutesAt f o b c) (sym nop)
+            (CommutesAt-behind_nop f d b c (converging d b c as_b as_c b_with_c))
+        | inr kind_a ↦ elim (HasDeclaredKind-or_nop f.head b as_b.declared) [
+          | inl nop ↦ subst (λ (o : Op). CommutesAt f a o c) (sym nop)
+              (commutes_exchanged f Nop a c (CommutesAt-behind_nop f d a c (converging d a c as_a as_c a_with_c)))
+          | inr kind_b ↦ tp2 d a b c (
+            kind_a,
+            as_a.enabled,
+            (a_with_b, (a_with_c, tt)),
+            (kind_b, as_b.enabled, (b_with_c, tt), (kind_c, as_c.enabled, tt, tt)),
+          )
+        ]
+      ]
     ]
-  ]
-]
 
 pub KeepsForms-every : (f : Function) → ((n : ℕ) (o : Op) → IsEnabled o n → is_enabled o n ≡ true) → KeepsForms f
 KeepsForms-every f tested = record {

@@ -1,5 +1,6 @@
 -- The obligations that the kinds of a function have.
-use Rattle.std.proofs.Common.{◌≡◌, ℕ, zero, suc, ◌<◌, Bool, true, List, [], ◌∷◌, length, map, sym, subst, inl, inr, lit<, arith}
+use Rattle.std.proofs.Common.{◌≡◌, ℕ, zero, suc, ◌<◌, Bool, true, List, [], ◌∷◌, length, map, sym, subst, inl, inr}
+use Rattle.std.proofs.Common.{lit<, arith}
 use Rattle.std.specs.Prelude.{◌⊎◌, filter, slice_index_or}
 use Rattle.std.specs.List.{Contains}
 use Rattle.std.proofs.lemmas.List.Elements.{Contains-append_left, Contains-append_right}
@@ -39,10 +40,12 @@ Contains-pairs_of : (kinds : List Kind) (k l : Kind) (i j : ℕ) →
 Contains-pairs_of [] k l i j below_i is_k below_j is_l = absurd (omega arith)
 Contains-pairs_of (first ∷ others) k l zero j below_i is_k below_j is_l =
     inl (Contains-append_left (map (Pair first) (first ∷ others)) (pairs_of others) (Pair k l)
-    (subst (λ x. Contains (map (Pair first) (first ∷ others)) (Pair x l)) is_k (Contains-map (Pair first) (first ∷ others) l j below_j is_l)))
+    (subst (λ x. Contains (map (Pair first) (first ∷ others)) (Pair x l)) is_k
+    (Contains-map (Pair first) (first ∷ others) l j below_j is_l)))
 Contains-pairs_of (first ∷ others) k l (suc i) zero below_i is_k below_j is_l =
     inr (Contains-append_left (map (Pair first) (first ∷ others)) (pairs_of others) (Pair l k)
-    (subst (λ x. Contains (map (Pair first) (first ∷ others)) (Pair x k)) is_l (Contains-map (Pair first) (first ∷ others) k (suc i) below_i is_k)))
+    (subst (λ x. Contains (map (Pair first) (first ∷ others)) (Pair x k)) is_l
+    (Contains-map (Pair first) (first ∷ others) k (suc i) below_i is_k)))
 Contains-pairs_of (first ∷ others) k l (suc i) (suc j) below_i is_k below_j is_l =
     elim (Contains-pairs_of others k l i j (omega arith) is_k (omega arith) is_l) [
       | inl one ↦ inl (Contains-append_right (map (Pair first) (first ∷ others)) (pairs_of others) (Pair k l) one)
@@ -57,7 +60,8 @@ Contains-declared_pair head k l first second =
     Contains-pairs_of (declared_kinds head) k l of_k.0 of_l.0 of_k.1 of_k.2 of_l.1 of_l.2
 
 Contains-with_thirds : (pairs : List ObName) (kinds : List Kind) (m : Kind) (pair : ObName) (i : ℕ) →
-    i < length kinds → slice_index_or kinds i m ≡ m → Contains pairs pair → Contains (with_thirds pairs kinds) (with_third m pair)
+    i < length kinds → slice_index_or kinds i m ≡ m → Contains pairs pair
+    → Contains (with_thirds pairs kinds) (with_third m pair)
 Contains-with_thirds pairs [] m pair i below is listed = absurd (omega arith)
 Contains-with_thirds pairs (first ∷ others) m pair zero below is listed =
     Contains-append_left (map (with_third first) pairs) (with_thirds pairs others) (with_third m pair)
@@ -68,11 +72,15 @@ Contains-with_thirds pairs (first ∷ others) m pair (suc i) below is listed =
     (Contains-with_thirds pairs others m pair i (omega arith) is listed)
 
 -- a listed pair with a third kind is a listed triple
-Contains-third : (kinds : List Kind) (k l m : Kind) → Contains kinds m → Contains (pairs_of kinds) (Pair k l) → Contains (triples_of kinds) (Triple k l m)
-Contains-third kinds k l m third pair = Contains-with_thirds (pairs_of kinds) kinds m (Pair k l) third.0 third.1 third.2 pair
+Contains-third : (kinds : List Kind) (k l m : Kind) → Contains kinds m → Contains (pairs_of kinds) (Pair k l)
+    → Contains (triples_of kinds) (Triple k l m)
+Contains-third kinds k l m third pair =
+    Contains-with_thirds (pairs_of kinds) kinds m (Pair k l) third.0 third.1 third.2 pair
 
-pub Contains-declared_triple : (head : Head) (k l m : Kind) → is_declared head k ≡ true → is_declared head l ≡ true → is_declared head m ≡ true →
-    Contains (triples_of (declared_kinds head)) (Triple k l m) ⊎ Contains (triples_of (declared_kinds head)) (Triple l k m)
+pub Contains-declared_triple : (head : Head) (k l m : Kind) → is_declared head k ≡ true → is_declared head l ≡ true
+    → is_declared head m ≡ true →
+    Contains (triples_of (declared_kinds head)) (Triple k l m)
+    ⊎ Contains (triples_of (declared_kinds head)) (Triple l k m)
 Contains-declared_triple head k l m first second third =
     let of_m = Contains-declared head m third in
     elim (Contains-declared_pair head k l first second) [

@@ -6,7 +6,8 @@ use Rattle.std.proofs.lemmas.List.Folds.{Any-from_list_any}
 use Rattle.fn_rules.specs.Orders.{names, names_below, names_each_once, NamesEachOnce}
 
 -- an order that names all numbers below one names each of them
-pub names_below-names : (count i : ℕ) (order : List ℕ) → names_below count order ≡ true → i < count → names order i ≡ true
+pub names_below-names : (count i : ℕ) (order : List ℕ) → names_below count order ≡ true
+    → i < count → names order i ≡ true
 names_below-names zero i order all inside = absurd (omega arith)
 names_below-names (suc n) i order all inside =
     let parts = and_parts (names_below n order) (names order n) all in
@@ -24,5 +25,7 @@ names-contains order i is =
 
 pub names_each_once-fact : (count : ℕ) (order : List ℕ) → names_each_once count order ≡ true → NamesEachOnce count order
 names_each_once-fact count order is =
-    let parts = and_parts (nat_eq (length order) count) (names_below count order) is in
-    (eqb-true (length order) count parts.0, λ i inside. names-contains order i (names_below-names count i order parts.1 inside))
+    let parts = and_parts (nat_eq (length order) count) (names_below count order) is in (
+      eqb-true (length order) count parts.0,
+      λ i inside. names-contains order i (names_below-names count i order parts.1 inside),
+    )

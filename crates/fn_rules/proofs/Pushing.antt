@@ -1,5 +1,6 @@
 -- What a loop puts behind a list, element by element.
-use Rattle.std.proofs.Common.{◌≡◌, ℕ, ◌+◌, ◌<◌, ◌≤◌, Bool, true, false, cond, List, [], ◌∷◌, ◌++◌, length, map, take, get_or, sym, ap, ◌∙◌, append_assoc}
+use Rattle.std.proofs.Common.{◌≡◌, ℕ, ◌+◌, ◌<◌, ◌≤◌, Bool, true, false, cond, List, [], ◌∷◌, ◌++◌, length, map, take}
+use Rattle.std.proofs.Common.{get_or, sym, ap, ◌∙◌, append_assoc}
 use Rattle.std.specs.Prelude.{filter}
 use Rattle.std.proofs.lemmas.List.{append-nil, map-append, take_all, take_more}
 use Rattle.std.proofs.lemmas.List.Elements.{filter-append}
@@ -15,7 +16,8 @@ pub pushed_more :
     {A B : Type 0} (f : A → B) (old now new : List B) (xs : List A) (i : ℕ) (d : A) → i < length xs
     → now ≡ old ++ map f (take i xs) → new ≡ now ++ f (get_or xs i d) ∷ [] → new ≡ old ++ map f (take (i + 1) xs)
 pushed_more f old now new xs i d inside so_far is =
-    is ∙ ap (λ (l : List _). l ++ f (get_or xs i d) ∷ []) so_far ∙ append_assoc old (map f (take i xs)) (f (get_or xs i d) ∷ [])
+    is ∙ ap (λ (l : List _). l ++ f (get_or xs i d) ∷ []) so_far
+    ∙ append_assoc old (map f (take i xs)) (f (get_or xs i d) ∷ [])
     ∙ ap (λ (l : List _). old ++ l) (sym (map-take_more f xs i d inside))
 
 -- behind the last one all are there

@@ -8,9 +8,10 @@ use Rattle.ot_model.specs.declared.op.TheConstants.{KINDS}
 use Rattle.ot_model.specs.Kinds.{kind_rank, is_same_kind}
 use Rattle.fn_rules.specs.declared.function.Head.{Head}
 use Rattle.fn_rules.specs.Functions.{is_declared}
-use Rattle.fn_moves.specs.declared.control.Seconds.{Seconds}
-use Rattle.fn_moves.specs.declared.control.Pairs.{Pairs}
-use Rattle.fn_moves.specs.Kinds.{seconds_of, with_seconds, has_second, with_second, has_seen, with_pair, declares_some, comes_next}
+use Rattle.fn_tokens.specs.declared.control.Seconds.{Seconds}
+use Rattle.fn_tokens.specs.declared.control.Pairs.{Pairs}
+use Rattle.fn_tokens.specs.Kinds.{seconds_of, with_seconds, has_second, with_second, has_seen, with_pair, declares_some}
+use Rattle.fn_tokens.specs.Kinds.{comes_next}
 use Rattle.fn_text.specs.Reader.{no_seconds, no_pairs}
 use Rattle.fn_grammar.proofs.KindLists.{list_all_from, kind_fails, same_kind, is_own_pair}
 
@@ -29,7 +30,8 @@ has_seen-none k l = second k (λ seconds. has_second seconds l ≡ false) (none 
     second Del P h = h
     second Upd P h = h
 
-second_behind : (seconds : Seconds) (b l : Kind) → has_second (with_second seconds b) l ≡ (is_same_kind b l || has_second seconds l)
+second_behind : (seconds : Seconds) (b l : Kind)
+    → has_second (with_second seconds b) l ≡ (is_same_kind b l || has_second seconds l)
 second_behind seconds Ins Ins = refl
 second_behind seconds Ins Del = refl
 second_behind seconds Ins Upd = refl
@@ -75,8 +77,10 @@ or_right : (p q : Bool) → q ≡ true → (p || q) ≡ true
 or_right true q h = refl
 or_right false q h = h
 
-pub has_seen-still : (seen : Pairs) (a b k l : Kind) → has_seen seen k l ≡ true → has_seen (with_pair seen a b) k l ≡ true
-has_seen-still seen a b k l h = has_seen-with_pair seen a b k l ∙ or_right (is_same_kind a k && is_same_kind b l) (has_seen seen k l) h
+pub has_seen-still : (seen : Pairs) (a b k l : Kind) → has_seen seen k l ≡ true
+    → has_seen (with_pair seen a b) k l ≡ true
+has_seen-still seen a b k l h = has_seen-with_pair seen a b k l
+    ∙ or_right (is_same_kind a k && is_same_kind b l) (has_seen seen k l) h
 
 -- behind no kind each can be the next
 pub comes_next-first : (head : Head) (k : Kind) → declares_some head ≡ false → comes_next head k ≡ true

@@ -12,12 +12,12 @@ use Rattle.fn_tokens.specs.declared.token.Token.TheVariants.{Known, Number, Open
 use Rattle.fn_tokens.specs.declared.token.Token.TheVariants as tokens
 use Rattle.fn_tokens.specs.declared.token.Word.TheVariants as words
 use Rattle.fn_tokens.specs.declared.token.Placed.{Placed}
-use Rattle.fn_moves.specs.declared.fault.TextFault.{TextFault}
-use Rattle.fn_moves.specs.declared.fault.FaultKind.{FaultKind}
-use Rattle.fn_moves.specs.declared.fault.FaultKind.TheVariants as faults
-use Rattle.fn_moves.specs.Meaning.{is_offset_number, may_compare}
-use Rattle.fn_moves.specs.Meaning.{is_same_side, is_same_sort}
-use Rattle.fn_moves.specs.Languages.{language_numbered}
+use Rattle.fn_tokens.specs.declared.fault.TextFault.{TextFault}
+use Rattle.fn_tokens.specs.declared.fault.FaultKind.{FaultKind}
+use Rattle.fn_tokens.specs.declared.fault.FaultKind.TheVariants as faults
+use Rattle.fn_tokens.specs.Meaning.{is_offset_number, may_compare}
+use Rattle.fn_tokens.specs.Meaning.{is_same_side, is_same_sort}
+use Rattle.fn_tokens.specs.Languages.{language_numbered}
 use Rattle.fn_text.specs.Counting.{speaks, is_behind_line_end, is_behind_sign, is_behind_otfn, is_in_block_line}
 use Rattle.fn_text.specs.Counting.{is_in_guard, is_in_result}
 use Rattle.fn_text.specs.Counting.{declares, first_of_block, is_behind_pair, blocks_before, has_block, lacks_some_pair}

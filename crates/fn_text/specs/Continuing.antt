@@ -11,14 +11,14 @@ use Rattle.fn_rules.specs.declared.limits.TheConstants.{MAX_CASES, MAX_ATOMS, MA
 use Rattle.fn_tokens.specs.declared.token.Token.{Token}
 use Rattle.fn_tokens.specs.declared.token.Placed.{Placed}
 use Rattle.fn_tokens.specs.Tokens.{bare}
-use Rattle.fn_moves.specs.declared.control.Want.{Want}
-use Rattle.fn_moves.specs.declared.control.Want.TheVariants as wants
-use Rattle.fn_moves.specs.declared.control.Control.{Control}
-use Rattle.fn_moves.specs.declared.language.Language.{Language}
-use Rattle.fn_moves.specs.Languages.{has_words}
-use Rattle.fn_moves.specs.Meaning.{Formulas, to_formulas}
-use Rattle.fn_moves.specs.Kinds.{declares_some}
-use Rattle.fn_moves.specs.Controls.{lacks_with, lacks_block}
+use Rattle.fn_tokens.specs.declared.control.Want.{Want}
+use Rattle.fn_tokens.specs.declared.control.Want.TheVariants as wants
+use Rattle.fn_tokens.specs.declared.control.Control.{Control}
+use Rattle.fn_tokens.specs.declared.language.Language.{Language}
+use Rattle.fn_tokens.specs.Languages.{has_words}
+use Rattle.fn_tokens.specs.Meaning.{Formulas, to_formulas}
+use Rattle.fn_tokens.specs.Kinds.{declares_some}
+use Rattle.fn_tokens.specs.Controls.{lacks_with, lacks_block}
 use Rattle.fn_text.specs.Reader.{State, first_state}
 use Rattle.fn_text.specs.Theorems.{state_behind}
 use Rattle.fn_grammar.specs.Grammar.{WrittenCase, WrittenBlock, atoms_in, nesting_in, is_allowed_phrase}

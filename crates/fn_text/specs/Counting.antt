@@ -5,9 +5,9 @@ use Rattle.std.specs.List.{list_any}
 use Rattle.ot_model.specs.declared.op.Kind.{Kind}
 use Rattle.ot_model.specs.declared.op.TheConstants.{KINDS}
 use Rattle.ot_model.specs.Kinds.{is_same_kind}
-use Rattle.fn_moves.specs.declared.language.Language.{Language}
-use Rattle.fn_moves.specs.declared.language.Language.TheVariants.{One}
-use Rattle.fn_moves.specs.Languages.{language_numbered, has_word}
+use Rattle.fn_tokens.specs.declared.language.Language.{Language}
+use Rattle.fn_tokens.specs.declared.language.Language.TheVariants.{One}
+use Rattle.fn_tokens.specs.Languages.{language_numbered, has_word}
 use Rattle.fn_rules.specs.declared.guard.Sort.{Sort}
 use Rattle.fn_rules.specs.declared.guard.Side.{Side}
 use Rattle.fn_rules.specs.Validity.{compares_chars}

@@ -7,8 +7,8 @@ use Rattle.fn_text.specs.declared.stop.TextError.{TextError}
 use Rattle.fn_text.specs.declared.stop.TextError.TheVariants as errors
 use Rattle.fn_text.specs.declared.reader.Nesting.{Nesting}
 use Rattle.fn_text.specs.declared.reader.FunctionReader.{FunctionReader}
-use Rattle.fn_moves.specs.declared.fault.TextFault.{TextFault}
-use Rattle.fn_moves.specs.Meaning.{Formulas}
+use Rattle.fn_tokens.specs.declared.fault.TextFault.{TextFault}
+use Rattle.fn_tokens.specs.Meaning.{Formulas}
 use Rattle.fn_text.specs.Reader.{State}
 use Rattle.fn_text.specs.Reader as plain
 

@@ -12,21 +12,21 @@ use Rattle.fn_rules.specs.declared.guard.Tightness.{Tightness}
 use Rattle.fn_rules.specs.declared.guard.Tightness.TheVariants.{Loose, Joined, Tight}
 use Rattle.fn_rules.specs.declared.function.Head.{Head}
 use Rattle.fn_tokens.specs.declared.token.Placed.{Placed}
-use Rattle.fn_moves.specs.declared.control.AfterLine.TheVariants as nexts
-use Rattle.fn_moves.specs.declared.control.Want.{Want}
-use Rattle.fn_moves.specs.declared.control.Want.TheVariants as wants
-use Rattle.fn_moves.specs.declared.control.Seconds.{Seconds}
-use Rattle.fn_moves.specs.declared.control.Pairs.{Pairs}
-use Rattle.fn_moves.specs.declared.control.Control.{Control}
-use Rattle.fn_moves.specs.declared.control.TokenMove.{TokenMove}
-use Rattle.fn_moves.specs.declared.control.TokenMove.TheVariants as moves
-use Rattle.fn_moves.specs.declared.language.Language.TheVariants as languages
-use Rattle.fn_moves.specs.declared.fault.TextFault.{TextFault}
-use Rattle.fn_moves.specs.declared.fault.FaultKind.TheVariants as faults
-use Rattle.fn_moves.specs.Kinds.{with_kind, with_pair}
-use Rattle.fn_moves.specs.Meaning.{Maker}
-use Rattle.fn_moves.specs.Moves.{move_for}
-use Rattle.fn_moves.specs.Faults.{fault_of}
+use Rattle.fn_tokens.specs.declared.control.AfterLine.TheVariants as nexts
+use Rattle.fn_tokens.specs.declared.control.Want.{Want}
+use Rattle.fn_tokens.specs.declared.control.Want.TheVariants as wants
+use Rattle.fn_tokens.specs.declared.control.Seconds.{Seconds}
+use Rattle.fn_tokens.specs.declared.control.Pairs.{Pairs}
+use Rattle.fn_tokens.specs.declared.control.Control.{Control}
+use Rattle.fn_tokens.specs.declared.control.TokenMove.{TokenMove}
+use Rattle.fn_tokens.specs.declared.control.TokenMove.TheVariants as moves
+use Rattle.fn_tokens.specs.declared.language.Language.TheVariants as languages
+use Rattle.fn_tokens.specs.declared.fault.TextFault.{TextFault}
+use Rattle.fn_tokens.specs.declared.fault.FaultKind.TheVariants as faults
+use Rattle.fn_tokens.specs.Kinds.{with_kind, with_pair}
+use Rattle.fn_tokens.specs.Meaning.{Maker}
+use Rattle.fn_tokens.specs.Moves.{move_for}
+use Rattle.fn_tokens.specs.Faults.{fault_of}
 
 -- what was read in parentheses that are still open: what stands before the last `or`, what stands behind
 -- that and before the last `and`, and how many `not` stand behind that; and what stands around them

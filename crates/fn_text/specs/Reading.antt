@@ -3,9 +3,9 @@ use Rattle.std.specs.Prelude.{ℕ, List, Result, Ok, Err}
 use Rattle.fn_rules.specs.declared.function.Head.{Head}
 use Rattle.fn_rules.specs.Functions.{Function}
 use Rattle.fn_rules.specs.Building.{PairCases, function_from}
-use Rattle.fn_moves.specs.declared.fault.TextFault.{TextFault}
+use Rattle.fn_tokens.specs.declared.fault.TextFault.{TextFault}
 use Rattle.fn_tokens.specs.Tokens.{tokens_in}
-use Rattle.fn_moves.specs.Meaning.{to_formulas}
+use Rattle.fn_tokens.specs.Meaning.{to_formulas}
 use Rattle.fn_text.specs.Reader.{read_from, first_state}
 
 -- the function that a head and blocks stand for

@@ -3,7 +3,7 @@ use Rattle.std.specs.Prelude.{◌≡◌, ◌↔◌, ℕ, List, ◌∷◌, ◌++�
 use Rattle.fn_rules.specs.Functions.{Function}
 use Rattle.fn_tokens.specs.declared.token.Placed.{Placed}
 use Rattle.fn_tokens.specs.Tokens.{bare, tokens_in}
-use Rattle.fn_moves.specs.declared.fault.TextFault.{TextFault}
+use Rattle.fn_tokens.specs.declared.fault.TextFault.{TextFault}
 use Rattle.fn_text.specs.declared.stop.TextError.{TextError}
 use Rattle.fn_text.specs.declared.stop.TextError.TheVariants as errors
 use Rattle.fn_grammar.specs.Grammar.{IsTextOf}

@@ -4,8 +4,8 @@ use Rattle.fn_rules.specs.declared.guard.Tightness.{Tightness}
 use Rattle.fn_rules.specs.Functions.{Function}
 use Rattle.fn_rules.specs.Validity.{is_valid}
 use Rattle.fn_tokens.specs.declared.token.Placed.{Placed}
-use Rattle.fn_moves.specs.declared.fault.TextFault.{TextFault}
-use Rattle.fn_moves.specs.Meaning.{Maker}
+use Rattle.fn_tokens.specs.declared.fault.TextFault.{TextFault}
+use Rattle.fn_tokens.specs.Meaning.{Maker}
 use Rattle.fn_grammar.specs.Print.{printed}
 use Rattle.fn_grammar.specs.Grammar.{IsTextOf}
 use Rattle.fn_text.specs.Reader.{State, turn}

@@ -3,7 +3,7 @@ use Rattle.std.specs.Prelude.{ℕ, List, [], ◌∷◌, Option, Some, None, Ok, 
 use Rattle.fn_rules.specs.declared.guard.Tightness.{Tightness}
 use Rattle.fn_tokens.specs.declared.token.Placed.{Placed}
 use Rattle.fn_tokens.specs.Tokens.{tokens_in}
-use Rattle.fn_moves.specs.Meaning.{Maker, to_formulas}
+use Rattle.fn_tokens.specs.Meaning.{Maker, to_formulas}
 use Rattle.fn_text.specs.declared.wrong.WrongToken.{WrongToken}
 use Rattle.fn_text.specs.Reader.{State, turn, first_state}
 

@@ -1,12 +1,12 @@
 //! What a token that goes on makes of the control.
 
 ghost use Rattle.std.specs.Prelude.{◌≡◌, ◌+◌, true};
-ghost use Rattle.fn_moves.specs.Kinds.{with_kind};
-ghost use Rattle.fn_moves.specs.Moves.{HasRoom};
+ghost use Rattle.fn_tokens.specs.Kinds.{with_kind};
+ghost use Rattle.fn_tokens.specs.Moves.{HasRoom};
 ghost use Rattle.fn_text.specs.Reader.{want_behind, control_behind};
 
-use fn_moves::{AfterLine, Control, TokenMove, Want};
 use fn_rules::{Cmp, Head, Side, Sort};
+use fn_tokens::{AfterLine, Control, TokenMove, Want};
 use ot_model::Kind;
 
 fn with_kind(head: Head, kind: Kind) -> Head

@@ -16,8 +16,7 @@ mod theorems;
 mod wrong;
 
 pub use fn_grammar::{canonical_guards_have_the_fewest_parentheses, canonical_text_lexes_back};
-pub use fn_moves::{FaultKind, TextFault};
-pub use fn_tokens::{Placed, Sign, Token, Word, lex};
+pub use fn_tokens::{FaultKind, Placed, Sign, TextFault, Token, Word, lex};
 pub use grammar::{taken_tokens_can_go_on, what_is_read_is_in_the_grammar};
 pub use reading::read;
 pub use round_trip::{print, read_back};

@@ -3,20 +3,22 @@
 ghost use Rattle.std.specs.Prelude.{◌≡◌, IfOk, OnOk, map, option_map, Ok, None, [], ◌<◌, ◌≤◌, length};
 ghost use Rattle.fn_rules.specs.Formulas.{formula_of};
 ghost use Rattle.fn_rules.specs.Building.{block_of};
-ghost use Rattle.fn_moves.specs.Meaning.{res_of, signed, to_formulas};
+ghost use Rattle.fn_tokens.specs.Meaning.{res_of, signed, to_formulas};
 ghost use Rattle.fn_text.specs.Reader.{negate, join, choose, conjunction, disjunction, blocks_of, left_for, told};
 ghost use Rattle.fn_text.specs.Reader.{moved, turn, ended};
 ghost use Rattle.fn_text.specs.Reader.{read_from, first_state};
-ghost use Rattle.fn_moves.specs.Controls.{depth_of};
-ghost use Rattle.fn_moves.specs.Moves.{HasRoom};
+ghost use Rattle.fn_tokens.specs.Controls.{depth_of};
+ghost use Rattle.fn_tokens.specs.Moves.{HasRoom};
 ghost use Rattle.fn_text.specs.Made.{state_of, plain_nesting_of, GivesView};
 
 use crate::NoMemory;
 use crate::behind::go_behind;
 use crate::stop::TextError;
-use fn_moves::{Control, FaultKind, TextFault, TokenMove, Want, Written};
 use fn_rules::{Atom, Block, Case, Cmp, Guard, Head, MAX_ATOMS, Res, Side, Sort};
-use fn_tokens::{FrontComparison, FrontOffset, Lexer, Placed, Sign};
+use fn_tokens::{
+    Control, FaultKind, FrontComparison, FrontOffset, Lexer, Placed, Sign, TextFault, TokenMove,
+    Want, Written,
+};
 use ot_model::Kind;
 use std::alloc::Global;
 use std::mem;

@@ -4,7 +4,7 @@ ghost use Rattle.std.specs.Prelude.{◌<◌, ◌^◌, length, map, Ok, IfOk, IsT
 ghost use Rattle.fn_rules.specs.Building.{block_of, is_buildable};
 ghost use Rattle.fn_rules.specs.Rules.{function_of};
 ghost use Rattle.fn_tokens.specs.Tokens.{tokens_in};
-ghost use Rattle.fn_moves.specs.Meaning.{to_formulas};
+ghost use Rattle.fn_tokens.specs.Meaning.{to_formulas};
 ghost use Rattle.fn_text.specs.Reader.{read_from, first_state};
 ghost use Rattle.fn_text.specs.Made.{GivesView};
 ghost use Rattle.fn_text.specs.Reading.{function_in};

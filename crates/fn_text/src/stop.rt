@@ -3,7 +3,7 @@
 ghost use Rattle.std.specs.Prelude.{◌≡◌};
 ghost use Rattle.fn_text.specs.declared.stop.TextError.TheVariants.{NoMemory};
 
-use fn_moves::TextFault;
+use fn_tokens::TextFault;
 use std::alloc::{AllocError, AllocFailed};
 
 /// Why reading stopped.

@@ -1,15 +1,14 @@
 //! The first wrong token of a file.
 
 ghost use Rattle.std.specs.Prelude.{◌≡◌, ◌<◌, ◌^◌, length, IfOk};
-ghost use Rattle.fn_moves.specs.Meaning.{to_formulas};
+ghost use Rattle.fn_tokens.specs.Meaning.{to_formulas};
 ghost use Rattle.fn_text.specs.Reader.{first_state};
 ghost use Rattle.fn_text.specs.Wrong.{wrong_from, wrong_in};
 
 use crate::NoMemory;
 use crate::reader::FunctionReader;
 use crate::stop::TextError;
-use fn_moves::Control;
-use fn_tokens::{Lexer, Placed};
+use fn_tokens::{Control, Lexer, Placed};
 use std::alloc::Global;
 
 /// A token that cannot go on.

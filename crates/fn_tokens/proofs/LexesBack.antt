@@ -1,6 +1,6 @@
 -- Tokens in lines are read back from the bytes that spell them.
-use Rattle.std.proofs.Common.{◌≡◌, ℕ, zero, suc, ◌+◌, ◌-◌, ◌/◌, ◌%◌, ◌<◌, ◌≤◌, ◌==◌, Bool, true, false, not, ◌||◌, List, [], ◌∷◌, ◌++◌, map, length, take, refl}
-use Rattle.std.proofs.Common.{sym, ◌∙◌, ap, subst, inl, inr, arith}
+use Rattle.std.proofs.Common.{◌≡◌, ℕ, zero, suc, ◌+◌, ◌-◌, ◌/◌, ◌%◌, ◌<◌, ◌≤◌, ◌==◌, Bool, true, false, not, ◌||◌, List}
+use Rattle.std.proofs.Common.{[], ◌∷◌, ◌++◌, map, length, take, refl, sym, ◌∙◌, ap, subst, inl, inr, arith}
 use Rattle.std.specs.Prelude.{codes, nat_lt}
 use Rattle.std.specs.List.{list_all, prefix_len}
 use Rattle.std.specs.Fmt.{decimal}
@@ -15,13 +15,15 @@ use Rattle.fn_rules.specs.declared.guard.Sort.TheVariants.{Pos, Site, Char}
 use Rattle.fn_rules.specs.declared.guard.Side.TheVariants.{First, Second}
 use Rattle.fn_rules.specs.declared.guard.Cmp.TheVariants.{Lt, Le, Eq}
 use Rattle.fn_tokens.specs.declared.token.Sign.TheVariants.{Plus, Minus}
-use Rattle.fn_tokens.specs.declared.token.Token.TheVariants.{Byte, Unknown, Known, Number, Comparison, Sign, Open, Close, Colon, LineEnd, FileEnd}
+use Rattle.fn_tokens.specs.declared.token.Token.TheVariants.{Byte, Unknown, Known, Number, Comparison, Sign, Open}
+use Rattle.fn_tokens.specs.declared.token.Token.TheVariants.{Close, Colon, LineEnd, FileEnd}
 use Rattle.fn_tokens.specs.declared.token.Word.{Word}
 use Rattle.fn_tokens.specs.declared.token.Word.TheVariants as words
 use Rattle.fn_tokens.specs.declared.lexer.Cursor.{Cursor}
 use Rattle.fn_tokens.specs.declared.lexer.Run.TheVariants as runs
 use Rattle.fn_tokens.specs.Words.{spelling_of, word_token}
-use Rattle.fn_tokens.specs.Tokens.{is_letter, is_digit, is_blank, is_line_end, is_in, number_from, front_of, tokens_from}
+use Rattle.fn_tokens.specs.Tokens.{is_letter, is_digit, is_blank, is_line_end, is_in, number_from, front_of}
+use Rattle.fn_tokens.specs.Tokens.{tokens_from}
 use Rattle.fn_tokens.specs.Spelling.{token_bytes, spelled_from, IsText, InLines}
 
 -- a place by its parts
@@ -47,7 +49,8 @@ record Ends (byte : ℕ) : Type 0 where
 abbrev Lexes : Token → List ℕ → Type 0
 Lexes token text =
     (line column sep : ℕ) (after : Bool) (rest : List ℕ) → Ends sep →
-    seen (spot line column after 0) (text ++ sep ∷ rest) ≡ token ∷ seen (spot line (further (length text) column) true 0) (sep ∷ rest)
+    seen (spot line column after 0) (text ++ sep ∷ rest)
+    ≡ token ∷ seen (spot line (further (length text) column) true 0) (sep ∷ rest)
 
 -- a letter is nothing else
 pub record IsLetter (byte : ℕ) : Type 0 where
@@ -86,7 +89,8 @@ skipped_one byte bytes line column more =
 skipped : (run : List ℕ) (line column : ℕ) (rest : List ℕ) →
     seen (spot line column true (length run)) (run ++ rest) ≡ seen (spot line (further (length run) column) true 0) rest
 skipped [] line column rest = refl
-skipped (byte ∷ run) line column rest = skipped_one byte (run ++ rest) line column (length run) ∙ skipped run line (column + 1) rest
+skipped (byte ∷ run) line column rest = skipped_one byte (run ++ rest) line column (length run)
+    ∙ skipped run line (column + 1) rest
 
 -- the first letter of a word takes the whole run
 letter_first : (byte : ℕ) (bytes : List ℕ) (line column : ℕ) (after : Bool) → IsLetter byte →
@@ -100,7 +104,8 @@ letter_first byte bytes line column after is = rw (is.line_end, is.blank, is.com
 run_lexes : (token : Token) (byte : ℕ) (run : List ℕ) → IsLetter byte → list_all (is_in runs.Word) run ≡ true →
     word_token (byte ∷ run) ≡ token → Lexes token (byte ∷ run)
 run_lexes token byte run is all e line column sep after rest ends =
-    let as_far : prefix_len (is_in runs.Word) (run ++ sep ∷ rest) ≡ length run = prefix_len-run (is_in runs.Word) run sep rest all ends.run in
+    let as_far : prefix_len (is_in runs.Word) (run ++ sep ∷ rest) ≡ length run =
+    prefix_len-run (is_in runs.Word) run sep rest all ends.run in
     let front : take (length run) (run ++ sep ∷ rest) ≡ run = take_at run (sep ∷ rest) (length run) refl in
     let first = letter_first byte (run ++ sep ∷ rest) line column after is in
     rw first (rw (as_far, front, e) (ap (λ ts. token ∷ ts) (skipped run line (column + 1) (sep ∷ rest))))
@@ -137,30 +142,50 @@ word_token-spelling words.End = refl
 
 -- each word is read back
 word_lexes : (word : Word) → Lexes (Known word) (spelling_of word)
-word_lexes words.Otfn = run_lexes _ 111 (codes "tfn") (IsLetter-from_test 111 refl) refl (word_token-spelling words.Otfn)
-word_lexes words.Text = run_lexes _ 116 (codes "ext") (IsLetter-from_test 116 refl) refl (word_token-spelling words.Text)
-word_lexes (words.Mode Plain) = run_lexes _ 112 (codes "lain") (IsLetter-from_test 112 refl) refl (word_token-spelling (words.Mode Plain))
-word_lexes (words.Mode Tomb) = run_lexes _ 116 (codes "omb") (IsLetter-from_test 116 refl) refl (word_token-spelling (words.Mode Tomb))
-word_lexes words.Kinds = run_lexes _ 107 (codes "inds") (IsLetter-from_test 107 refl) refl (word_token-spelling words.Kinds)
-word_lexes (words.Kind kinds.Ins) = run_lexes _ 105 (codes "ns") (IsLetter-from_test 105 refl) refl (word_token-spelling (words.Kind kinds.Ins))
-word_lexes (words.Kind kinds.Del) = run_lexes _ 100 (codes "el") (IsLetter-from_test 100 refl) refl (word_token-spelling (words.Kind kinds.Del))
-word_lexes (words.Kind kinds.Upd) = run_lexes _ 117 (codes "pd") (IsLetter-from_test 117 refl) refl (word_token-spelling (words.Kind kinds.Upd))
-word_lexes words.Assume = run_lexes _ 97 (codes "ssume") (IsLetter-from_test 97 refl) refl (word_token-spelling words.Assume)
-word_lexes words.Sites = run_lexes _ 115 (codes "ites") (IsLetter-from_test 115 refl) refl (word_token-spelling words.Sites)
-word_lexes words.Chars = run_lexes _ 99 (codes "hars") (IsLetter-from_test 99 refl) refl (word_token-spelling words.Chars)
-word_lexes words.Differ = run_lexes _ 100 (codes "iffer") (IsLetter-from_test 100 refl) refl (word_token-spelling words.Differ)
-word_lexes words.Block = run_lexes _ 98 (codes "lock") (IsLetter-from_test 98 refl) refl (word_token-spelling words.Block)
+word_lexes words.Otfn =
+    run_lexes _ 111 (codes "tfn") (IsLetter-from_test 111 refl) refl (word_token-spelling words.Otfn)
+word_lexes words.Text =
+    run_lexes _ 116 (codes "ext") (IsLetter-from_test 116 refl) refl (word_token-spelling words.Text)
+word_lexes (words.Mode Plain) =
+    run_lexes _ 112 (codes "lain") (IsLetter-from_test 112 refl) refl (word_token-spelling (words.Mode Plain))
+word_lexes (words.Mode Tomb) =
+    run_lexes _ 116 (codes "omb") (IsLetter-from_test 116 refl) refl (word_token-spelling (words.Mode Tomb))
+word_lexes words.Kinds =
+    run_lexes _ 107 (codes "inds") (IsLetter-from_test 107 refl) refl (word_token-spelling words.Kinds)
+word_lexes (words.Kind kinds.Ins) =
+    run_lexes _ 105 (codes "ns") (IsLetter-from_test 105 refl) refl (word_token-spelling (words.Kind kinds.Ins))
+word_lexes (words.Kind kinds.Del) =
+    run_lexes _ 100 (codes "el") (IsLetter-from_test 100 refl) refl (word_token-spelling (words.Kind kinds.Del))
+word_lexes (words.Kind kinds.Upd) =
+    run_lexes _ 117 (codes "pd") (IsLetter-from_test 117 refl) refl (word_token-spelling (words.Kind kinds.Upd))
+word_lexes words.Assume =
+    run_lexes _ 97 (codes "ssume") (IsLetter-from_test 97 refl) refl (word_token-spelling words.Assume)
+word_lexes words.Sites =
+    run_lexes _ 115 (codes "ites") (IsLetter-from_test 115 refl) refl (word_token-spelling words.Sites)
+word_lexes words.Chars =
+    run_lexes _ 99 (codes "hars") (IsLetter-from_test 99 refl) refl (word_token-spelling words.Chars)
+word_lexes words.Differ =
+    run_lexes _ 100 (codes "iffer") (IsLetter-from_test 100 refl) refl (word_token-spelling words.Differ)
+word_lexes words.Block =
+    run_lexes _ 98 (codes "lock") (IsLetter-from_test 98 refl) refl (word_token-spelling words.Block)
 word_lexes words.Case = run_lexes _ 99 (codes "ase") (IsLetter-from_test 99 refl) refl (word_token-spelling words.Case)
 word_lexes words.And = run_lexes _ 97 (codes "nd") (IsLetter-from_test 97 refl) refl (word_token-spelling words.And)
 word_lexes words.Or = run_lexes _ 111 (codes "r") (IsLetter-from_test 111 refl) refl (word_token-spelling words.Or)
 word_lexes words.Not = run_lexes _ 110 (codes "ot") (IsLetter-from_test 110 refl) refl (word_token-spelling words.Not)
-word_lexes words.True = run_lexes _ 116 (codes "rue") (IsLetter-from_test 116 refl) refl (word_token-spelling words.True)
-word_lexes (words.Thing Pos First) = run_lexes _ 112 (codes "1") (IsLetter-from_test 112 refl) refl (word_token-spelling (words.Thing Pos First))
-word_lexes (words.Thing Pos Second) = run_lexes _ 112 (codes "2") (IsLetter-from_test 112 refl) refl (word_token-spelling (words.Thing Pos Second))
-word_lexes (words.Thing Site First) = run_lexes _ 115 (codes "1") (IsLetter-from_test 115 refl) refl (word_token-spelling (words.Thing Site First))
-word_lexes (words.Thing Site Second) = run_lexes _ 115 (codes "2") (IsLetter-from_test 115 refl) refl (word_token-spelling (words.Thing Site Second))
-word_lexes (words.Thing Char First) = run_lexes _ 99 (codes "1") (IsLetter-from_test 99 refl) refl (word_token-spelling (words.Thing Char First))
-word_lexes (words.Thing Char Second) = run_lexes _ 99 (codes "2") (IsLetter-from_test 99 refl) refl (word_token-spelling (words.Thing Char Second))
+word_lexes words.True =
+    run_lexes _ 116 (codes "rue") (IsLetter-from_test 116 refl) refl (word_token-spelling words.True)
+word_lexes (words.Thing Pos First) =
+    run_lexes _ 112 (codes "1") (IsLetter-from_test 112 refl) refl (word_token-spelling (words.Thing Pos First))
+word_lexes (words.Thing Pos Second) =
+    run_lexes _ 112 (codes "2") (IsLetter-from_test 112 refl) refl (word_token-spelling (words.Thing Pos Second))
+word_lexes (words.Thing Site First) =
+    run_lexes _ 115 (codes "1") (IsLetter-from_test 115 refl) refl (word_token-spelling (words.Thing Site First))
+word_lexes (words.Thing Site Second) =
+    run_lexes _ 115 (codes "2") (IsLetter-from_test 115 refl) refl (word_token-spelling (words.Thing Site Second))
+word_lexes (words.Thing Char First) =
+    run_lexes _ 99 (codes "1") (IsLetter-from_test 99 refl) refl (word_token-spelling (words.Thing Char First))
+word_lexes (words.Thing Char Second) =
+    run_lexes _ 99 (codes "2") (IsLetter-from_test 99 refl) refl (word_token-spelling (words.Thing Char Second))
 word_lexes words.Nop = run_lexes _ 110 (codes "op") (IsLetter-from_test 110 refl) refl (word_token-spelling words.Nop)
 word_lexes words.End = run_lexes _ 101 (codes "nd") (IsLetter-from_test 101 refl) refl (word_token-spelling words.End)
 
@@ -185,10 +210,12 @@ IsDigit-below d below = record {
 -- a number of one digit is read back
 digit_lexes : (byte : ℕ) → IsDigit byte → Lexes (Number (number_from 0 (byte ∷ []))) (byte ∷ [])
 unfolding front_of
-digit_lexes byte is line column sep after rest ends = rw (is.line_end, is.blank, is.comment, is.letter, is.digit, ends.digits) refl
+digit_lexes byte is line column sep after rest ends =
+    rw (is.line_end, is.blank, is.comment, is.letter, is.digit, ends.digits) refl
 
 -- a number of two digits is read back
-digits_lex : (byte next : ℕ) → IsDigit byte → IsDigit next → Lexes (Number (number_from 0 (byte ∷ next ∷ []))) (byte ∷ next ∷ [])
+digits_lex : (byte next : ℕ) → IsDigit byte → IsDigit next
+    → Lexes (Number (number_from 0 (byte ∷ next ∷ []))) (byte ∷ next ∷ [])
 unfolding front_of
 digits_lex byte next is is_too line column sep after rest ends =
     rw (is.line_end, is.blank, is.comment, is.letter, is.digit, is_too.digit, ends.digits) refl
@@ -209,7 +236,8 @@ number_lexes n small = elim (cases_lt n 10) [ inl below ↦ one below | inr abov
       let text : decimal n ≡ decimal (n / 10) ++ (48 + n % 10) ∷ [] = decimal_step n above (omega arith) in
       rw (text, front)
       (subst (λ k. Lexes (Number k) ((48 + n / 10) ∷ (48 + n % 10) ∷ [])) value
-      (digits_lex (48 + n / 10) (48 + n % 10) (IsDigit-below (n / 10) (omega arith)) (IsDigit-below (n % 10) (omega arith))))
+      (digits_lex (48 + n / 10) (48 + n % 10) (IsDigit-below (n / 10) (omega arith))
+      (IsDigit-below (n % 10) (omega arith))))
 
 -- each token that stands within a line is read back
 text_lexes : (token : Token) → IsText token → Lexes token (token_bytes token)
@@ -239,20 +267,31 @@ record Follows (tokens : List Token) : Type 0 where
 -- there is always such a byte
 follows : (tokens : List Token) → InLines false tokens → Follows tokens
 follows [] h = absurd (false≢true h)
-follows (LineEnd ∷ tokens) h = record { sep = 10; rest = spelled_from true tokens; is = refl; ends = record { run = refl; digits = refl; sign = refl } }
+follows (LineEnd ∷ tokens) h = record {
+  sep = 10;
+  rest = spelled_from true tokens;
+  is = refl;
+  ends = record { run = refl; digits = refl; sign = refl };
+}
 follows (token ∷ tokens) h =
-    record { sep = 32; rest = token_bytes token ++ spelled_from false tokens; is = refl; ends = record { run = refl; digits = refl; sign = refl } }
+    record {
+      sep = 32;
+      rest = token_bytes token ++ spelled_from false tokens;
+      is = refl;
+      ends = record { run = refl; digits = refl; sign = refl };
+    }
 
 -- a token within a line and what stands behind it
-text_then : (token : Token) (tokens : List Token) (line column : ℕ) (after : Bool) → Lexes token (token_bytes token) → InLines false tokens →
+text_then : (token : Token) (tokens : List Token) (line column : ℕ) (after : Bool)
+    → Lexes token (token_bytes token) → InLines false tokens →
     ((line column : ℕ) → seen (spot line column true 0) (spelled_from false tokens) ≡ tokens ++ FileEnd ∷ []) →
     seen (spot line column after 0) (token_bytes token ++ spelled_from false tokens) ≡ token ∷ (tokens ++ FileEnd ∷ [])
 text_then token tokens line column after lexes lines others =
     let f = follows tokens lines in
     rw (f.is)
     (lexes line column f.sep after f.rest f.ends
-    ∙ ap (λ ts. token ∷ ts) (ap (seen (spot line (further (length (token_bytes token)) column) true 0)) (sym f.is) ∙ others line
-    (further (length (token_bytes token)) column)))
+    ∙ ap (λ ts. token ∷ ts) (ap (seen (spot line (further (length (token_bytes token)) column) true 0)) (sym f.is)
+    ∙ others line (further (length (token_bytes token)) column)))
 
 -- tokens in whole lines are read back from their bytes
 pub lines_lex : (begins : Bool) (tokens : List Token) (line column : ℕ) → InLines begins tokens →

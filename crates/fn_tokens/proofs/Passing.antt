@@ -1,5 +1,7 @@
 -- What is behind the bytes that belong to a token or comment.
-use Rattle.std.proofs.Common.{◌≡◌, ℕ, zero, suc, ◌+◌, ◌-◌, ◌<◌, ◌≤◌, Bool, true, false, true≢false, nat_lt, Option, Some, None, is_some, List, [], ◌∷◌, ◌++◌, length, take, drop, get_or, refl, sym, ap, ◌∙◌, arith, rules}
+use Rattle.std.proofs.Common.{◌≡◌, ℕ, zero, suc, ◌+◌, ◌-◌, ◌<◌, ◌≤◌, Bool, true, false, true≢false, nat_lt, Option}
+use Rattle.std.proofs.Common.{Some, None, is_some, List, [], ◌∷◌, ◌++◌, length, take, drop, get_or, refl, sym, ap, ◌∙◌}
+use Rattle.std.proofs.Common.{arith, rules}
 use Rattle.std.specs.Option.{option_to_list}
 use Rattle.std.proofs.lemmas.List.{drop-drop, length-drop, take_rest}
 use Rattle.fn_tokens.specs.declared.token.Placed.{Placed}
@@ -33,21 +35,25 @@ passed_from line after (suc skip) column (byte ∷ rest) within =
 pub passed :
     (at : Cursor) (bytes : List ℕ) → at.skip ≤ length bytes
     → tokens_from at bytes
-    ≡ tokens_from (record { line = at.line; column = at.column + at.skip; after = at.after; skip = 0 }) (drop at.skip bytes)
+    ≡ tokens_from (record { line = at.line; column = at.column + at.skip; after = at.after; skip = 0 })
+    (drop at.skip bytes)
 passed at bytes within = passed_from at.line at.after at.skip at.column bytes within
 
 -- what is behind a place where none of the bytes belongs to what began before
 at_front :
     (at : Cursor) (bytes : List ℕ) → 0 < length bytes
-    → tokens_from at bytes ≡ tokens_at at (get_or bytes 0 0) (drop 1 bytes) ++ tokens_from (cursor_after at (get_or bytes 0 0) (drop 1 bytes)) (drop 1 bytes)
+    → tokens_from at bytes ≡ tokens_at at (get_or bytes 0 0) (drop 1 bytes)
+    ++ tokens_from (cursor_after at (get_or bytes 0 0) (drop 1 bytes)) (drop 1 bytes)
 at_front at [] some = absurd (omega arith)
 at_front at (byte ∷ rest) some = refl
 
 -- the tokens from a place on are those at its byte and those behind what belongs to them
 pub goes_on :
     (from next behind : Cursor) (found : List Placed) (at : ℕ) (bytes : List ℕ) → at < length bytes
-    → found ≡ tokens_at from (get_or (take (length bytes - at) (drop at bytes)) 0 0) (drop 1 (take (length bytes - at) (drop at bytes)))
-    → next ≡ cursor_after from (get_or (take (length bytes - at) (drop at bytes)) 0 0) (drop 1 (take (length bytes - at) (drop at bytes)))
+    → found ≡ tokens_at from (get_or (take (length bytes - at) (drop at bytes)) 0 0)
+    (drop 1 (take (length bytes - at) (drop at bytes)))
+    → next ≡ cursor_after from (get_or (take (length bytes - at) (drop at bytes)) 0 0)
+    (drop 1 (take (length bytes - at) (drop at bytes)))
     → tokens_from next (take (length bytes - (at + 1)) (drop (at + 1) bytes))
     ≡ tokens_from behind (drop next.skip (take (length bytes - (at + 1)) (drop (at + 1) bytes)))
     → tokens_from from (drop at bytes) ≡ found ++ tokens_from behind (drop (at + (1 + next.skip)) bytes)
@@ -57,7 +63,8 @@ goes_on from next behind found at bytes within tokens place rest =
     let some : 0 < length (drop at bytes) = rw (length-drop at bytes) (omega arith) in
     let one : drop 1 (drop at bytes) ≡ drop (at + 1) bytes = drop-drop 1 at bytes in
     let sum : at + 1 + next.skip ≡ at + (1 + next.skip) = omega arith in
-    let far : drop next.skip (drop (at + 1) bytes) ≡ drop (at + (1 + next.skip)) bytes = drop-drop next.skip (at + 1) bytes ∙ ap (λ n. drop n bytes) sum in
+    let far : drop next.skip (drop (at + 1) bytes) ≡ drop (at + (1 + next.skip)) bytes =
+    drop-drop next.skip (at + 1) bytes ∙ ap (λ n. drop n bytes) sum in
     let first : List Placed = tokens_at from (get_or (drop at bytes) 0 0) (drop 1 (drop at bytes)) in
     at_front from (drop at bytes) some
     ∙ ap (λ c. first ++ tokens_from c (drop 1 (drop at bytes))) (sym (rw here at place))
@@ -67,7 +74,8 @@ goes_on from next behind found at bytes within tokens place rest =
 
 -- where there is none, the tokens are those behind
 pub none_there :
-    (found : Option Placed) (tokens behind : List Placed) → is_some found ≡ false → tokens ≡ option_to_list found ++ behind
+    (found : Option Placed) (tokens behind : List Placed) → is_some found ≡ false
+    → tokens ≡ option_to_list found ++ behind
     → behind ≡ tokens
 none_there None tokens behind none e = sym e
 none_there (Some token) tokens behind none e = absurd (true≢false none)

@@ -1,5 +1,6 @@
 -- Tokens in lines are spelled by few bytes.
-use Rattle.std.proofs.Common.{ℕ, ◌+◌, ◌*◌, ◌≤◌, Bool, true, false, ◌||◌, List, [], ◌∷◌, ◌++◌, length, cond, length-append, arith, lit≤, lit<}
+use Rattle.std.proofs.Common.{ℕ, ◌+◌, ◌*◌, ◌≤◌, Bool, true, false, ◌||◌, List, [], ◌∷◌, ◌++◌, length, cond}
+use Rattle.std.proofs.Common.{length-append, arith, lit≤, lit<}
 use Rattle.std.specs.Fmt.{decimal}
 use Rattle.std.proofs.lemmas.Fmt.{length-decimal-le}
 use Rattle.ot_model.specs.declared.op.Mode.TheVariants.{Plain, Tomb}
@@ -9,7 +10,8 @@ use Rattle.fn_rules.specs.declared.guard.Side.TheVariants.{First, Second}
 use Rattle.fn_rules.specs.declared.guard.Cmp.TheVariants.{Lt, Le, Eq}
 use Rattle.fn_tokens.specs.declared.token.Sign.TheVariants.{Plus, Minus}
 use Rattle.fn_tokens.specs.declared.token.Token.{Token}
-use Rattle.fn_tokens.specs.declared.token.Token.TheVariants.{Byte, Unknown, Known, Number, Comparison, Sign, Open, Close, Colon, LineEnd, FileEnd}
+use Rattle.fn_tokens.specs.declared.token.Token.TheVariants.{Byte, Unknown, Known, Number, Comparison, Sign, Open}
+use Rattle.fn_tokens.specs.declared.token.Token.TheVariants.{Close, Colon, LineEnd, FileEnd}
 use Rattle.fn_tokens.specs.declared.token.Word.{Word}
 use Rattle.fn_tokens.specs.declared.token.Word.TheVariants as words
 use Rattle.fn_tokens.specs.Words.{spelling_of}
@@ -45,7 +47,8 @@ word_size words.Nop = lit≤ tt
 word_size words.End = lit≤ tt
 
 number_size : (n : ℕ) → n ≤ 99 → length (decimal n) ≤ 6
-number_size n small = let two = length-decimal-le 2 n (lit< tt) (omega (arith, small)) (omega (arith, small)) in omega (arith, two)
+number_size n small =
+    let two = length-decimal-le 2 n (lit< tt) (omega (arith, small)) (omega (arith, small)) in omega (arith, two)
 
 -- so is a token of a text
 token_size : (token : Token) → IsText token → length (token_bytes token) ≤ 6
@@ -81,7 +84,8 @@ one_size begins token rest size =
     omega (arith, size, space, front, whole)
 
 -- each token of a line has 8 bytes at most, with the space or the line's end behind it
-pub spelled_size : (begins : Bool) (tokens : List Token) → InLines begins tokens → length (spelled_from begins tokens) ≤ 8 * length tokens
+pub spelled_size : (begins : Bool) (tokens : List Token) → InLines begins tokens
+    → length (spelled_from begins tokens) ≤ 8 * length tokens
 spelled_size begins [] lines = omega arith
 spelled_size begins (LineEnd ∷ tokens) lines =
     let here = one_size begins LineEnd (spelled_from true tokens) (lit≤ tt) in

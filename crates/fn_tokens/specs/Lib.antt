@@ -2,3 +2,12 @@ pub mod Words
 pub mod Tokens
 pub mod Spelling
 pub mod Comparisons
+pub mod Kinds
+pub mod Languages
+pub mod Meaning
+pub mod Controls
+pub mod FixedMoves
+pub mod LineMoves
+pub mod GuardMoves
+pub mod Moves
+pub mod Faults

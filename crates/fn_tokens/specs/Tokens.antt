@@ -125,8 +125,8 @@ tokens_in bytes = tokens_from first_place bytes
 abbrev pub tokens_left : Bool → Cursor → List ℕ → List Placed
 tokens_left ended at bytes = if ended then [] else tokens_from at bytes
 
--- nothing is left of the token or comment that began last, and lines and columns are no more than the bytes before them,
--- and one
+-- nothing is left of the token or comment that began last, and lines and columns
+-- are no more than the bytes before them, and one
 pub record IsPlaceIn (total passed : ℕ) (at : Cursor) : Type 0 where
   pub free : at.skip ≡ 0
   pub few : total < 2 ^ 31

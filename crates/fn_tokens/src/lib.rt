@@ -4,12 +4,20 @@
 //! tokens in lines.
 #![tactic(auto)]
 
+mod cause;
 mod comparison;
+mod control;
+mod fault;
+mod language;
 mod lexer;
+mod moves;
 mod spelling;
 mod token;
 
 pub use comparison::{FrontComparison, FrontOffset};
+pub use control::{AfterLine, Control, Pairs, Region, Seconds, TokenMove, Want, Written};
+pub use fault::{FaultKind, TextFault};
+pub use language::Language;
 pub use lexer::{Lexer, lex, tokens_end_files};
 pub use spelling::{lines_lex_back, spell};
 pub use std::alloc::AllocError as NoMemory;

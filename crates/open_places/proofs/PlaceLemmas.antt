@@ -1,9 +1,11 @@
 -- The places of a proof after each change of its path.
-use Rattle.std.proofs.Common.{get_or, ◌≡◌, ℕ, ◌+◌, ◌<◌, ◌≤◌, ◌-◌, List, [], ◌∷◌, ◌++◌, length, take, drop, map, reverse, Option, Some, None, true, false}
-use Rattle.std.proofs.Common.{arith, refl, sym, ◌∙◌, ap, subst, append_assoc, zero, suc}
+use Rattle.std.proofs.Common.{get_or, ◌≡◌, ℕ, ◌+◌, ◌<◌, ◌≤◌, ◌-◌, List, [], ◌∷◌, ◌++◌, length, take, drop, map, reverse}
+use Rattle.std.proofs.Common.{Option, Some, None, true, false, arith, refl, sym, ◌∙◌, ap, subst, append_assoc, zero}
+use Rattle.std.proofs.Common.{suc}
 use Rattle.std.specs.Prelude.{slice_get, MatchOption}
-use Rattle.std.proofs.lemmas.List.{reverse-append, map-append, take-take, take-append-le, take_at, drop-append-le, drop-take, length-append, length-take-le}
-use Rattle.std.proofs.lemmas.List.{drop_at, length-drop, length-map, length-reverse, reverse-reverse, take-append-drop}
+use Rattle.std.proofs.lemmas.List.{reverse-append, map-append, take-take, take-append-le, take_at, drop-append-le}
+use Rattle.std.proofs.lemmas.List.{drop-take, length-append, length-take-le, drop_at, length-drop, length-map}
+use Rattle.std.proofs.lemmas.List.{length-reverse, reverse-reverse, take-append-drop}
 use Rattle.std.proofs.Math.Seq.{take-length}
 use Rattle.std.proofs.lemmas.Option.{slice_get_read, slice_get_within, slice_get-get_or}
 use Rattle.diff_graph.specs.declared.lit.Lit.{Lit}
@@ -14,8 +16,8 @@ use Rattle.open_places.specs.declared.places.Known.{Known}
 use Rattle.open_places.specs.declared.places.WaitingPlace.{WaitingPlace}
 use Rattle.open_places.specs.declared.places.WaitingPlace.TheVariants as waiting
 use Rattle.open_places.specs.Parts.{AreCycles, cycle_part, without_cycles}
-use Rattle.open_places.specs.Places.{WantedAt, Tree, OpenProof, first_list, settled_at, closed, asked, begun, cited, cycles_at, literals_at, place_at, behind}
-use Rattle.open_places.specs.Places.{AreNestedParts, open_proof, IsOpenPath}
+use Rattle.open_places.specs.Places.{WantedAt, Tree, OpenProof, first_list, settled_at, closed, asked, begun, cited}
+use Rattle.open_places.specs.Places.{cycles_at, literals_at, place_at, behind, AreNestedParts, open_proof, IsOpenPath}
 
 -- a list, cut before its last element
 pushed_at :
@@ -44,7 +46,8 @@ popped xs rest x n long whole cut =
     whole ∙ ap (λ (u : List _). u ++ x ∷ []) (sym front)
 
 -- the last elements are the first from behind
-reverse-take : {X : Type 0} (xs : List X) (n : ℕ) → n ≤ length xs → reverse (take (length xs - n) xs) ≡ drop n (reverse xs)
+reverse-take : {X : Type 0} (xs : List X) (n : ℕ) → n ≤ length xs
+    → reverse (take (length xs - n) xs) ≡ drop n (reverse xs)
 reverse-take xs n few =
     let front : ℕ = length xs - n in
     let whole : reverse xs ≡ reverse (drop front xs) ++ reverse (take front xs) =
@@ -60,7 +63,8 @@ reverse-push xs x = reverse-append xs (x ∷ [])
 module _ {N : Type 0} where
   -- a higher limit is kept too
   pub AreNestedParts-more :
-      (base low high : ℕ) (parts : List (WaitingPlace N)) → low ≤ high → AreNestedParts base low parts → AreNestedParts base high parts
+      (base low high : ℕ) (parts : List (WaitingPlace N)) → low ≤ high → AreNestedParts base low parts
+      → AreNestedParts base high parts
   AreNestedParts-more base low high [] less nested = tt
   AreNestedParts-more base low high (waiting.Place place depth answer ∷ parts) less nested =
       (nested.0, omega (arith, nested.1), nested.2)
@@ -93,7 +97,8 @@ module _ {N : Type 0} where
   literals_found (x ∷ known) zero k found = let same : x ≡ k = cc in ap (λ (y : Known N). y.literals) (sym same)
   literals_found (x ∷ known) (suc number) k found = literals_found known number k found
 
-  first_list-place_at : (place : At N) (w : List Lit) (wanted : List (WantedAt N)) → first_list (place_at place w ∷ wanted) ≡ w
+  first_list-place_at : (place : At N) (w : List Lit) (wanted : List (WantedAt N))
+      → first_list (place_at place w ∷ wanted) ≡ w
   first_list-place_at (at.Tree n) w wanted = refl
   first_list-place_at at.Cycle w wanted = refl
 
@@ -124,7 +129,8 @@ module _ {N : Type 0} where
       let long : length (take depth list) ≡ depth = length-take-le depth list nested.1 in
       record {
         within = omega (arith, long, nested.0);
-        nested = AreNestedParts-more base depth (length (take depth list)) (reverse rest) (omega (arith, long)) nested.2;
+        nested =
+            AreNestedParts-more base depth (length (take depth list)) (reverse rest) (omega (arith, long)) nested.2;
       }
 
   -- the path around a lemma has the list as it was when the lemma began
@@ -142,7 +148,8 @@ module _ {N : Type 0} where
 
   -- a lemma's literals more, and its place waits
   pub lemma_path :
-      (base : ℕ) (list u : List Lit) (ls : List Lit) (parts later : List (WaitingPlace N)) (n : N) → IsOpenPath base list parts
+      (base : ℕ) (list u : List Lit) (ls : List Lit) (parts later : List (WaitingPlace N)) (n : N)
+      → IsOpenPath base list parts
       → u ≡ list ++ ls → later ≡ parts ++ waiting.Lemma n base (length ls) ∷ [] → IsOpenPath (length list) u later
   lemma_path base list u ls parts later n path longer deeper =
       let more : length u ≡ length list + length ls = rw (longer, length-append) refl in
@@ -163,11 +170,12 @@ module _ {N : Type 0} where
 
   -- a lemma is begun: its tree is wanted after its own literals, and the place where it was begun waits
   pub begun_places :
-      (known : List (Known N)) (current : Option (At N)) (base : ℕ) (list u ls : List Lit) (parts later : List (WaitingPlace N))
-      (n : N) (p : OpenProof N)
+      (known : List (Known N)) (current : Option (At N)) (base : ℕ) (list u ls : List Lit)
+      (parts later : List (WaitingPlace N)) (n : N) (p : OpenProof N)
       → open_proof known current base list parts ≡ p → 0 < length p.wanted → IsOpenPath base list parts
       → u ≡ list ++ ls → later ≡ parts ++ waiting.Lemma n base (length ls) ∷ []
-      → record { known = known; wanted = Tree n (drop (length list) u) ∷ behind (length list) u (reverse later) } ≡ begun n ls p
+      → record { known = known; wanted = Tree n (drop (length list) u) ∷ behind (length list) u (reverse later) }
+      ≡ begun n ls p
   begun_places known None base list u ls parts later n p shown opened path longer deeper =
       absurd (omega (arith, opened, ap (λ (x : OpenProof N). length x.wanted) shown))
   begun_places known (Some place) base list u ls parts later n p shown opened path longer deeper =
@@ -175,23 +183,26 @@ module _ {N : Type 0} where
       let whole : take (length ls) ls ≡ ls = take-length ls in
       let full : take (length list) (list ++ ls) ≡ list = take_at list ls (length list) refl in
       let others : behind base (list ++ ls) (reverse parts) ≡ behind base list (reverse parts) =
-      behind-same base (length list) (list ++ ls) list (reverse parts) (λ k below. take-append-le k list ls below) path.nested in
+      behind-same base (length list) (list ++ ls) list (reverse parts)
+      (λ k below. take-append-le k list ls below) path.nested in
       rw (longer, deeper, ← shown, reverse-push, own, whole, full, others, first_list-place_at) refl
 
   -- a question puts the part for yes first and the part for no second
   pub asked_places :
-      (known : List (Known N)) (current : Option (At N)) (base : ℕ) (list u : List Lit) (parts later : List (WaitingPlace N))
-      (l : Lit) (on_yes on_no : N) (p : OpenProof N)
+      (known : List (Known N)) (current : Option (At N)) (base : ℕ) (list u : List Lit)
+      (parts later : List (WaitingPlace N)) (l : Lit) (on_yes on_no : N) (p : OpenProof N)
       → open_proof known current base list parts ≡ p → 0 < length p.wanted → IsOpenPath base list parts
       → u ≡ list ++ answered_of l true ∷ []
       → later ≡ parts ++ waiting.Place (at.Tree on_no) (length list) (answered_of l false) ∷ []
-      → record { known = known; wanted = Tree on_yes (drop base u) ∷ behind base u (reverse later) } ≡ asked l on_yes on_no p
+      → record { known = known; wanted = Tree on_yes (drop base u) ∷ behind base u (reverse later) }
+      ≡ asked l on_yes on_no p
   asked_places known None base list u parts later l on_yes on_no p shown opened path longer deeper =
       absurd (omega (arith, opened, ap (λ (x : OpenProof N). length x.wanted) shown))
   asked_places known (Some place) base list u parts later l on_yes on_no p shown opened path longer deeper =
       let here : drop base (list ++ answered_of l true ∷ []) ≡ drop base list ++ answered_of l true ∷ [] =
       drop-append-le base list (answered_of l true ∷ []) path.within in
-      let full : take (length list) (list ++ answered_of l true ∷ []) ≡ list = take_at list (answered_of l true ∷ []) (length list) refl in
+      let full : take (length list) (list ++ answered_of l true ∷ []) ≡ list =
+      take_at list (answered_of l true ∷ []) (length list) refl in
       let others : behind base (list ++ answered_of l true ∷ []) (reverse parts) ≡ behind base list (reverse parts) =
       behind-same base (length list) (list ++ answered_of l true ∷ []) list (reverse parts)
       (λ k below. take-append-le k list (answered_of l true ∷ []) below ∙ refl) path.nested in
@@ -203,7 +214,8 @@ module _ {N : Type 0} where
       (l : Lit) (on_yes on_no : N) (p : OpenProof N)
       → open_proof known current base list parts ≡ p → 0 < length p.wanted → IsOpenPath base list parts
       → u ≡ list ++ answered_of l false ∷ []
-      → record { known = known; wanted = Tree on_no (drop base u) ∷ behind base u (reverse parts) } ≡ closed (asked l on_yes on_no p)
+      → record { known = known; wanted = Tree on_no (drop base u) ∷ behind base u (reverse parts) }
+      ≡ closed (asked l on_yes on_no p)
   denied_places known None base list u parts l on_yes on_no p shown opened path longer =
       absurd (omega (arith, opened, ap (λ (x : OpenProof N). length x.wanted) shown))
   denied_places known (Some place) base list u parts l on_yes on_no p shown opened path longer =
@@ -216,7 +228,8 @@ module _ {N : Type 0} where
 
   -- where nothing waits, nothing is wanted any more
   pub closed_last :
-      (known : List (Known N)) (current : Option (At N)) (base : ℕ) (list : List Lit) (parts : List (WaitingPlace N)) (p : OpenProof N)
+      (known : List (Known N)) (current : Option (At N)) (base : ℕ) (list : List Lit)
+      (parts : List (WaitingPlace N)) (p : OpenProof N)
       → open_proof known current base list parts ≡ p → parts ≡ [] → record { known = known; wanted = [] } ≡ closed p
   closed_last known None base list parts p shown none = rw (← shown) refl
   closed_last known (Some place) base list parts p shown none = rw (← shown, none) refl
@@ -230,8 +243,8 @@ module _ {N : Type 0} where
 
   -- the innermost part that waits is next
   pub closed_places :
-      (known : List (Known N)) (current : Option (At N)) (base : ℕ) (list u : List Lit) (parts rest : List (WaitingPlace N))
-      (place : At N) (depth : ℕ) (answer : Lit) (p : OpenProof N)
+      (known : List (Known N)) (current : Option (At N)) (base : ℕ) (list u : List Lit)
+      (parts rest : List (WaitingPlace N)) (place : At N) (depth : ℕ) (answer : Lit) (p : OpenProof N)
       → open_proof known current base list parts ≡ p → 0 < length p.wanted → IsOpenPath base list parts
       → parts ≡ rest ++ waiting.Place place depth answer ∷ [] → u ≡ take depth list ++ answer ∷ []
       → record { known = known; wanted = place_at place (drop base u) ∷ behind base u (reverse rest) } ≡ closed p
@@ -244,13 +257,14 @@ module _ {N : Type 0} where
       drop-append-le base (take depth list) (answer ∷ []) (omega (arith, long, nested.0)) in
       let others : behind base (take depth list ++ answer ∷ []) (reverse rest) ≡ behind base list (reverse rest) =
       behind-same base depth (take depth list ++ answer ∷ []) list (reverse rest)
-      (λ k below. take-append-le k (take depth list) (answer ∷ []) (omega (arith, long)) ∙ take-take k depth list below) nested.2 in
+      (λ k below. take-append-le k (take depth list) (answer ∷ []) (omega (arith, long))
+      ∙ take-take k depth list below) nested.2 in
       rw (next, ← shown, same, reverse-push, here, others, settled_at-place_at) refl
 
   -- a lemma whose tree has ended is known, and its place is next
   pub learned_places :
-      (known later : List (Known N)) (current : Option (At N)) (base : ℕ) (list u : List Lit) (parts rest : List (WaitingPlace N))
-      (n : N) (below count : ℕ) (p : OpenProof N)
+      (known later : List (Known N)) (current : Option (At N)) (base : ℕ) (list u : List Lit)
+      (parts rest : List (WaitingPlace N)) (n : N) (below count : ℕ) (p : OpenProof N)
       → open_proof known current base list parts ≡ p → 0 < length p.wanted → IsOpenPath base list parts
       → parts ≡ rest ++ waiting.Lemma n below count ∷ [] → u ≡ take base list
       → later ≡ known ++ record { node = n; literals = take count (drop base list) } ∷ []
@@ -273,7 +287,8 @@ module _ {N : Type 0} where
 
   cycle_parts_behind :
       (base : ℕ) (list ls : List Lit) (parts : List (WaitingPlace N))
-      → behind base list (map (cycle_part (length list)) ls ++ parts) ≡ cycles_at (drop base list) ls ++ behind base list parts
+      → behind base list (map (cycle_part (length list)) ls ++ parts)
+      ≡ cycles_at (drop base list) ls ++ behind base list parts
   cycle_parts_behind base list [] parts = refl
   cycle_parts_behind base list (l ∷ ls) parts =
       let whole : take (length list) list ≡ list = take-length list in
@@ -290,8 +305,8 @@ module _ {N : Type 0} where
 
   -- what is wanted where cycles for literals wait behind the first place
   pub cycles_wait :
-      (known : List (Known N)) (current : Option (At N)) (base : ℕ) (list ls : List Lit) (parts later : List (WaitingPlace N))
-      (p : OpenProof N)
+      (known : List (Known N)) (current : Option (At N)) (base : ℕ) (list ls : List Lit)
+      (parts later : List (WaitingPlace N)) (p : OpenProof N)
       → open_proof known current base list parts ≡ p → 0 < length p.wanted
       → reverse later ≡ map (cycle_part (length list)) ls ++ reverse parts
       → (0 < length (open_proof known current base list later).wanted)
@@ -338,8 +353,8 @@ module _ {N : Type 0} where
 
   -- cycles that wait innermost, one for each literal, are wanted next, and without them all is as before
   pub cycles_waiting :
-      (known : List (Known N)) (current : Option (At N)) (base : ℕ) (list ls : List Lit) (parts later : List (WaitingPlace N))
-      (p : OpenProof N)
+      (known : List (Known N)) (current : Option (At N)) (base : ℕ) (list ls : List Lit)
+      (parts later : List (WaitingPlace N)) (p : OpenProof N)
       → open_proof known current base list parts ≡ p → 0 < length p.wanted
       → reverse later ≡ map (cycle_part (length list)) ls ++ reverse parts
       → AreCycles (length ls) (drop 1 (open_proof known current base list later).wanted)
@@ -354,22 +369,25 @@ module _ {N : Type 0} where
 
   -- parts that wait for cycles are forgotten
   cycles_dropped :
-      (base limit count : ℕ) (list : List Lit) (parts : List (WaitingPlace N)) → AreCycles count (behind base list parts)
+      (base limit count : ℕ) (list : List Lit) (parts : List (WaitingPlace N))
+      → AreCycles count (behind base list parts)
       → AreNestedParts base limit parts
       → (count ≤ length parts) × (behind base list (drop count parts) ≡ drop count (behind base list parts))
       × AreNestedParts base limit (drop count parts)
   cycles_dropped base limit zero list parts cycles nested = (omega arith, refl, nested)
   cycles_dropped base limit (suc count) list [] cycles nested = absurd cycles
-  cycles_dropped base limit (suc count) list (waiting.Place (at.Tree n) depth answer ∷ parts) cycles nested = absurd cycles
+  cycles_dropped base limit (suc count) list (waiting.Place (at.Tree n) depth answer ∷ parts) cycles nested =
+      absurd cycles
   cycles_dropped base limit (suc count) list (waiting.Place at.Cycle depth answer ∷ parts) cycles nested =
-      let later = cycles_dropped base limit count list parts cycles (AreNestedParts-more base depth limit parts nested.1 nested.2) in
+      let later = cycles_dropped base limit count list parts cycles
+      (AreNestedParts-more base depth limit parts nested.1 nested.2) in
       (omega (arith, later.0), later.1, later.2)
   cycles_dropped base limit (suc count) list (waiting.Lemma n below size ∷ parts) cycles nested = absurd cycles
 
   -- innermost parts that wait for cycles may be forgotten: without them the path has the other places
   pub forgotten_places :
-      (known : List (Known N)) (current : Option (At N)) (base : ℕ) (list : List Lit) (parts : List (WaitingPlace N)) (count : ℕ)
-      (p : OpenProof N)
+      (known : List (Known N)) (current : Option (At N)) (base : ℕ) (list : List Lit) (parts : List (WaitingPlace N))
+      (count : ℕ) (p : OpenProof N)
       → open_proof known current base list parts ≡ p → AreCycles count (drop 1 p.wanted) → IsOpenPath base list parts
       → (count ≤ length parts)
       × (open_proof known current base list (take (length parts - count) parts) ≡ without_cycles count p)
@@ -408,7 +426,8 @@ module _ {N : Type 0} where
       (p : OpenProof N) (number : ℕ) (k : Known N) → open_proof known current base list parts ≡ p
       → number < length p.known → k ≡ get_or known number k → k.literals ≡ literals_at p.known number
   literals_known known current base list parts p number k shown few read =
-      let same : known ≡ p.known = sym (known_places known current base list parts) ∙ ap (λ (x : OpenProof N). x.known) shown in
+      let same : known ≡ p.known = sym (known_places known current base list parts)
+      ∙ ap (λ (x : OpenProof N). x.known) shown in
       let less : number < length known = omega (arith, few, ap (λ (x : List (Known N)). length x) same) in
       let found : k.literals ≡ literals_at known number =
       literals_found known number k (slice_get_read known (length known) number k refl less read) in

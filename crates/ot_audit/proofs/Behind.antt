@@ -1,13 +1,13 @@
 -- What holds of the first of blocks and of those behind it holds of them all.
-use Rattle.std.proofs.Common.{◌≡◌, ℕ, true, List, [], ◌∷◌, ◌++◌, length, get_or, take, drop, ap, sym, subst, ◌∙◌, ◌-◌, ◌≤◌, arith}
-use Rattle.std.proofs.Common.{append_assoc, inr}
+use Rattle.std.proofs.Common.{◌≡◌, ℕ, true, List, [], ◌∷◌, ◌++◌, length, get_or, take, drop, ap, sym, subst, ◌∙◌, ◌-◌}
+use Rattle.std.proofs.Common.{◌≤◌, arith, append_assoc, inr}
 use Rattle.std.specs.List.{AllByRecursion}
 use Rattle.std.proofs.lemmas.List.{take_rest}
 use Rattle.ot_model.specs.declared.op.Kind.{Kind}
 use Rattle.fn_rules.specs.declared.function.Head.{Head}
 use Rattle.fn_rules.specs.Functions.{Function, is_declared_of}
-use Rattle.audit_answers.specs.declared.audits.BlockAudit.{BlockAudit}
-use Rattle.audit_answers.specs.declared.audits.Same.{Same}
+use Rattle.ot_audit.specs.declared.audits.BlockAudit.{BlockAudit}
+use Rattle.ot_audit.specs.declared.audits.Same.{Same}
 use Rattle.ot_audit.specs.declared.found.Agree.{Agree}
 use Rattle.ot_audit.specs.Answers.{IsAgreedAs}
 use Rattle.ot_audit.specs.Audits.{AreAudits, AreCompared, GoesOnWhereSame, HasLong, IsBlockAudit}
@@ -16,7 +16,8 @@ abbrev pub behind : List (Kind × Kind) → List (Kind × Kind)
 behind names = take (length names - 1) (drop 1 names)
 
 pub first_declared :
-    (head : Head) (names : List (Kind × Kind)) (d : Kind × Kind) → AllByRecursion (λ name. is_declared_of head name ≡ true) names
+    (head : Head) (names : List (Kind × Kind)) (d : Kind × Kind)
+    → AllByRecursion (λ name. is_declared_of head name ≡ true) names
     → 1 ≤ length names → is_declared_of head (get_or names 0 d) ≡ true
 first_declared head [] d declared some = absurd (omega arith)
 first_declared head (name ∷ names) d declared some = declared.0
@@ -34,7 +35,8 @@ abbrev pub AuditsBehind : Function → ℕ → List (Kind × Kind) → List Bloc
 AuditsBehind f budget names old new = (xs : List BlockAudit) × (new ≡ old ++ xs) × AreAudits f budget names xs
 
 pub audits_from_first :
-    (f : Function) (budget : ℕ) (names : List (Kind × Kind)) (d : Kind × Kind) (x : BlockAudit) (old pushed new : List BlockAudit)
+    (f : Function) (budget : ℕ) (names : List (Kind × Kind)) (d : Kind × Kind) (x : BlockAudit)
+    (old pushed new : List BlockAudit)
     → 1 ≤ length names → IsBlockAudit f budget ((get_or names 0 d).0, (get_or names 0 d).1) x → pushed ≡ old ++ x ∷ []
     → AuditsBehind f budget (behind names) pushed new → AuditsBehind f budget names old new
 audits_from_first f budget [] d x old pushed new some is more those = absurd (omega arith)
@@ -61,5 +63,6 @@ compared_from_first f g budget [] d same some alike is goes = absurd (omega arit
 compared_from_first f g budget (name ∷ names) d same some {agree = agree} alike is goes = (
   agree,
   subst (λ (y : Agree). IsAgreedAs f g name.0 name.1 budget y) alike is,
-  subst (λ (l : List (Kind × Kind)). GoesOnWhereSame name agree (AreCompared f g budget l) same) (take_rest (name ∷ names) 1) goes,
+  subst (λ (l : List (Kind × Kind)). GoesOnWhereSame name agree (AreCompared f g budget l) same)
+      (take_rest (name ∷ names) 1) goes,
 )

@@ -1,5 +1,6 @@
 -- Cases of a slice, and the plain cases that they stand for.
-use Rattle.std.proofs.Common.{◌≡◌, ℕ, zero, suc, ◌<◌, ◌≤◌, ◌-◌, Option, Some, Result, IfOk, List, [], ◌∷◌, length, get_or, map, take, drop, refl, ap, sym, subst, ◌∙◌, arith}
+use Rattle.std.proofs.Common.{◌≡◌, ℕ, zero, suc, ◌<◌, ◌≤◌, ◌-◌, Option, Some, Result, IfOk, List, [], ◌∷◌, length}
+use Rattle.std.proofs.Common.{get_or, map, take, drop, refl, ap, sym, subst, ◌∙◌, arith}
 use Rattle.std.specs.Prelude.{slice_get}
 use Rattle.std.specs.List.{AllByRecursion}
 use Rattle.std.proofs.lemmas.List.{length-map, take_rest}
@@ -16,22 +17,26 @@ use Rattle.ot_audit.specs.declared.target.Target.TheVariants as targets
 use Rattle.ot_audit.specs.Goals.{IsTargetOf, unless_true, at_own, at_target, with_first_result}
 
 pub near_at :
-    (xs : List Case) (i : ℕ) (d : Case) → AllByRecursion IsNearCase (map case_of xs) → i < length xs → IsNearCase (case_of (get_or xs i d))
+    (xs : List Case) (i : ℕ) (d : Case) → AllByRecursion IsNearCase (map case_of xs) → i < length xs
+    → IsNearCase (case_of (get_or xs i d))
 near_at [] i d near below = absurd (omega arith)
 near_at (x ∷ xs) zero d near below = near.0
 near_at (x ∷ xs) (suc i) d near below = near_at xs i d near.1 (omega arith)
 
 -- the first case
 pub near_first :
-    (xs : List Case) (x : Case) → AllByRecursion IsNearCase (map case_of xs) → 1 ≤ length xs → x ≡ get_or xs 0 x → IsNearCase (case_of x)
+    (xs : List Case) (x : Case) → AllByRecursion IsNearCase (map case_of xs) → 1 ≤ length xs
+    → x ≡ get_or xs 0 x → IsNearCase (case_of x)
 near_first xs x near some is = subst (λ (y : Case). IsNearCase (case_of y)) (sym is) (near_at xs 0 x near some)
 
-pub near_front : (xs : List Case) (i : ℕ) → AllByRecursion IsNearCase (map case_of xs) → AllByRecursion IsNearCase (map case_of (take i xs))
+pub near_front : (xs : List Case) (i : ℕ) → AllByRecursion IsNearCase (map case_of xs)
+    → AllByRecursion IsNearCase (map case_of (take i xs))
 near_front xs zero near = tt
 near_front [] (suc i) near = tt
 near_front (x ∷ xs) (suc i) near = (near.0, near_front xs i near.1)
 
-pub got_at : (xs : List Case) (i : ℕ) (d : Case) → i < length xs → slice_get (map case_of xs) i ≡ Some (case_of (get_or xs i d))
+pub got_at : (xs : List Case) (i : ℕ) (d : Case) → i < length xs
+    → slice_get (map case_of xs) i ≡ Some (case_of (get_or xs i d))
 got_at [] i d below = absurd (omega arith)
 got_at (x ∷ xs) zero d below = refl
 got_at (x ∷ xs) (suc i) d below = got_at xs i d (omega arith)
@@ -47,13 +52,15 @@ pub case_reached :
     → own ≡ at_own (Some (case_of x)) a b → g ≡ unless_true (map case_of (take i xs)) a b own
     → g ≡ at_target (map case_of xs) (targets.Case i) a b
 case_reached xs i x a b own g below is here behind =
-    let got : Some (case_of x) ≡ slice_get (map case_of xs) i = ap (λ y. Some (case_of y)) is ∙ sym (got_at xs i x below) in
+    let got : Some (case_of x) ≡ slice_get (map case_of xs) i = ap (λ y. Some (case_of y)) is
+    ∙ sym (got_at xs i x below) in
     behind
     ∙ ap (λ h. unless_true (map case_of (take i xs)) a b h) (here ∙ ap (λ o. at_own o a b) got)
     ∙ ap (λ cs. unless_true cs a b (at_own (slice_get (map case_of xs) i) a b)) (front_cases xs i)
 
 -- a target of as many cases
-pub target_there : (xs : List Case) (cs : List GuardedCase) (target : Target) → map case_of xs ≡ cs → IsTargetOf (length cs) target
+pub target_there : (xs : List Case) (cs : List GuardedCase) (target : Target) → map case_of xs ≡ cs
+    → IsTargetOf (length cs) target
     → IsTargetOf (length xs) target
 target_there xs cs target e h =
     let same : length xs ≡ length cs = sym (length-map xs case_of) ∙ ap length e in
@@ -83,8 +90,10 @@ first_result (y ∷ ys) x a b go here behind g some is first rest made =
 
 -- the same of a goal that is placed where there is memory
 pub first_placed :
-    {T E : Type 0} (result : Result T E) (tree : T → GoalTree) (xs : List Case) (x : Case) (a b r : SymOp) (go : Option SymOp → GoalTree)
-    (here behind : GoalTree) → 1 ≤ length xs → x ≡ get_or xs 0 x → r ≡ sym_result (case_of x).res a b → here ≡ go (Some r)
+    {T E : Type 0} (result : Result T E) (tree : T → GoalTree) (xs : List Case) (x : Case) (a b r : SymOp)
+    (go : Option SymOp → GoalTree)
+    (here behind : GoalTree) → 1 ≤ length xs → x ≡ get_or xs 0 x
+    → r ≡ sym_result (case_of x).res a b → here ≡ go (Some r)
     → behind ≡ with_first_result (map case_of (take (length xs - 1) (drop 1 xs))) a b go
     → IfOk result (λ t. tree t ≡ If (guard_form (case_of x).guard a b) here behind)
     → IfOk result (λ t. tree t ≡ with_first_result (map case_of xs) a b go)
@@ -95,7 +104,8 @@ first_placed result tree xs x a b r go here behind some is made first rest =
 
 -- the guards of the cases in their order
 pub unless_placed :
-    {T E : Type 0} (result : Result T E) (tree : T → GoalTree) (xs : List Case) (x : Case) (a b : SymOp) (on_yes behind next : GoalTree)
+    {T E : Type 0} (result : Result T E) (tree : T → GoalTree) (xs : List Case) (x : Case) (a b : SymOp)
+    (on_yes behind next : GoalTree)
     → 1 ≤ length xs → x ≡ get_or xs 0 x → on_yes ≡ Holds
     → behind ≡ unless_true (map case_of (take (length xs - 1) (drop 1 xs))) a b next
     → IfOk result (λ t. tree t ≡ If (guard_form (case_of x).guard a b) on_yes behind)

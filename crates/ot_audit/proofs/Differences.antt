@@ -1,6 +1,7 @@
 -- Where the plan of a difference ends at one valuation: in a failing end exactly where the operations are meant and the
 -- two functions do not agree.
-use Rattle.std.proofs.Common.{◌≡◌, ◌≢◌, ◌⊎◌, ℕ, ℤ, pos, true, Option, Some, None, List, [], ◌∷◌, refl, sym, ◌∙◌, ap, subst, inl, inr}
+use Rattle.std.proofs.Common.{◌≡◌, ◌≢◌, ◌⊎◌, ℕ, ℤ, pos, true, Option, Some, None, List, [], ◌∷◌, refl, sym, ◌∙◌, ap}
+use Rattle.std.proofs.Common.{subst, inl, inr}
 use Rattle.std.specs.Ordering.{int_eq}
 use Rattle.std.proofs.lemmas.Bool.{cases_Bool, false≢true}
 use Rattle.std.proofs.lemmas.Bool.Decides.{Decides-int_eq}
@@ -28,24 +29,28 @@ use Rattle.ot_terms.specs.Standing.{ask_form, ask_goal}
 use Rattle.ot_audit.specs.Goals.{with_first_result, unless_one_place, unless_same, unless_agreed, difference_goal}
 use Rattle.ot_audit.specs.Reached.{AreMeant, Agree}
 use Rattle.ot_audit.specs.Searches.{NamesTwo, Differs}
-use Rattle.ot_audit.proofs.Ends.{EndsAtMost, EndsGuard, EndsAllowed, AsksGuard, AsksAllowed, TestsAllowed, kind_named, meant_pass, passed_meant}
+use Rattle.ot_audit.proofs.Ends.{EndsAtMost, EndsGuard, EndsAllowed, AsksGuard, AsksAllowed, TestsAllowed, kind_named}
+use Rattle.ot_audit.proofs.Ends.{meant_pass, passed_meant}
 
 -- what the laws of questions and functions say
 abbrev pub EndsResult : Type 0
 EndsResult =
-    (f : Function) (v : ℕ → ℤ) (x y : SymOp) (a b : Op) → v zero_name ≡ pos 0 → StandsForOperation v x a → StandsForOperation v y b
+    (f : Function) (v : ℕ → ℤ) (x y : SymOp) (a b : Op) → v zero_name ≡ pos 0 → StandsForOperation v x a
+    → StandsForOperation v y b
     → GoesOnWith v (ask_result f x y) (transform_of f a b)
 
 abbrev pub EndsOneForm : Type 0
 EndsOneForm =
-    (v : ℕ → ℤ) (x y : SymOp) (a b c : Op) → StandsForOperation v x a → StandsForOperation v y b → IsFormOf c a → IsFormOf c b
+    (v : ℕ → ℤ) (x y : SymOp) (a b c : Op) → StandsForOperation v x a → StandsForOperation v y b
+    → IsFormOf c a → IsFormOf c b
     → (a ≡ b → end_of (ask_same_form x y) v ≡ None) × (a ≢ b → end_of (ask_same_form x y) v ≡ Some Operations)
 
 abbrev pub KeepsForm : Type 0
 KeepsForm = (f : Function) (a b c : Op) → transform_of f a b ≡ Some c → IsFormOf a c
 
 -- two forms of one operation are one or not
-by_parts : (a b : Op) → kind_of a ≡ kind_of b → at_of a ≡ at_of b → site_of a ≡ site_of b → char_of a ≡ char_of b → a ≡ b
+by_parts : (a b : Op) → kind_of a ≡ kind_of b → at_of a ≡ at_of b → site_of a ≡ site_of b
+    → char_of a ≡ char_of b → a ≡ b
 by_parts (ops.Ins at ch site) (ops.Ins to other from) k e f g = cc
 by_parts (ops.Del at site) (ops.Del to from) k e f g = cc
 by_parts (ops.Upd at ch site) (ops.Upd to other from) k e f g = cc
@@ -86,10 +91,12 @@ module _ (asks_guard : AsksGuard) (h : Function) where
   ask_goal-with_first_result [] a b go = refl
   ask_goal-with_first_result (c ∷ cs) a b go =
       asks_guard c.guard a b (ask_goal h (go (Some (sym_result c.res a b)))) (ask_goal h (with_first_result cs a b go))
-      ∙ ap (λ p. ask_guard c.guard a b (ask_goal h (go (Some (sym_result c.res a b)))) p) (ask_goal-with_first_result cs a b go)
+      ∙ ap (λ p. ask_guard c.guard a b (ask_goal h (go (Some (sym_result c.res a b)))) p)
+      (ask_goal-with_first_result cs a b go)
 
 one_place_asked :
-    (h : Function) (j k : Option Kind) (at there : Place) → ask_goal h (unless_one_place j k at there) ≡ ask_one_place j k at there
+    (h : Function) (j k : Option Kind) (at there : Place)
+    → ask_goal h (unless_one_place j k at there) ≡ ask_one_place j k at there
 unfolding ask_goal ask_form ask_one_place ask_le ask_lt ask_eq
 one_place_asked h None None at there = refl
 one_place_asked h None (Some l) at there = refl
@@ -139,7 +146,8 @@ module _ (asks_guard : AsksGuard) (h f g : Function) (k l : Kind) where
   left_asked =
       ask_goal-with_first_result asks_guard h (cases_of f k l) first_op second_op
       (λ x. with_first_result (cases_of g k l) first_op second_op (λ y. unless_same x y))
-      ∙ sym (ask_result-named f k l (λ x. ask_goal h (with_first_result (cases_of g k l) first_op second_op (λ y. unless_same x y))))
+      ∙ sym (ask_result-named f k l
+      (λ x. ask_goal h (with_first_result (cases_of g k l) first_op second_op (λ y. unless_same x y))))
 
 -- the plan holds where they agree, and fails where not; and one of the two is so
 abbrev Decided : Type 0 → Option Why → Type 0
@@ -169,17 +177,20 @@ pub goes_to :
 goes_to v ask go None goes = goes go
 goes_to v ask go (Some r) (x, stands, goes) = (x, stands, goes go)
 
-module _ (at_most : EndsAtMost) (ends_guard : EndsGuard) (ends_allowed : EndsAllowed) (asks_guard : AsksGuard) (asks_allowed : AsksAllowed)
+module _ (at_most : EndsAtMost) (ends_guard : EndsGuard) (ends_allowed : EndsAllowed) (asks_guard : AsksGuard)
+    (asks_allowed : AsksAllowed)
     (tests : TestsAllowed)
     (results : EndsResult) (one : EndsOneForm) (keeps : KeepsForm)
-    (f g : Function) (k l : Kind) (v : ℕ → ℤ) (a b : Op) (declared : is_declared_pair f.head k l ≡ true) (names : NamesTwo k l v a b) where
+    (f g : Function) (k l : Kind) (v : ℕ → ℤ) (a b : Op) (declared : is_declared_pair f.head k l ≡ true)
+    (names : NamesTwo k l v a b) where
   abbrev ended : GoalTree → Option Why
   ended goal = end_of (ask_goal f goal) v
 
   abbrev right_goal : Option SymOp → GoalTree
   right_goal x = with_first_result (cases_of g k l) (sym_op k A) (sym_op l B) (λ y. unless_same x y)
 
-  right_comes : (x : Option SymOp) → Comes v (λ y. ask_goal f (unless_same x y)) (ended (right_goal x)) (transform_of g a b)
+  right_comes : (x : Option SymOp)
+      → Comes v (λ y. ask_goal f (unless_same x y)) (ended (right_goal x)) (transform_of g a b)
   right_comes x =
       subst (λ p. Comes v (λ y. ask_goal f (unless_same x y)) (end_of p v) (transform_of g a b))
       (sym (right_asked asks_guard f f g k l x))
@@ -187,8 +198,8 @@ module _ (at_most : EndsAtMost) (ends_guard : EndsGuard) (ends_allowed : EndsAll
       (results g v (sym_op k A) (sym_op l B) a b names.zero names.first names.second))
 
   left_comes :
-      Comes v (λ x. ask_goal f (right_goal x)) (ended (unless_agreed (cases_of f k l) (cases_of g k l) (sym_op k A) (sym_op l B)))
-      (transform_of f a b)
+      Comes v (λ x. ask_goal f (right_goal x))
+      (ended (unless_agreed (cases_of f k l) (cases_of g k l) (sym_op k A) (sym_op l B))) (transform_of f a b)
   left_comes =
       subst (λ p. Comes v (λ x. ask_goal f (right_goal x)) (end_of p v) (transform_of f a b))
       (sym (left_asked asks_guard f f g k l))
@@ -215,8 +226,10 @@ module _ (at_most : EndsAtMost) (ends_guard : EndsGuard) (ends_allowed : EndsAll
 
   with_left :
       (p : Option Op) → transform_of f a b ≡ p
-      → Comes v (λ x. ask_goal f (right_goal x)) (ended (unless_agreed (cases_of f k l) (cases_of g k l) (sym_op k A) (sym_op l B))) p
-      → Decided (p ≡ transform_of g a b) (ended (unless_agreed (cases_of f k l) (cases_of g k l) (sym_op k A) (sym_op l B)))
+      → Comes v (λ x. ask_goal f (right_goal x))
+      (ended (unless_agreed (cases_of f k l) (cases_of g k l) (sym_op k A) (sym_op l B))) p
+      → Decided (p ≡ transform_of g a b)
+      (ended (unless_agreed (cases_of f k l) (cases_of g k l) (sym_op k A) (sym_op l B)))
   with_left None e comes =
       subst (λ end. Decided (None ≡ transform_of g a b) end) (sym comes)
       (with_right_none (transform_of g a b) (right_comes None))
@@ -241,7 +254,8 @@ module _ (at_most : EndsAtMost) (ends_guard : EndsGuard) (ends_allowed : EndsAll
   difference_sought why e =
       let both = unless_agreed (cases_of f k l) (cases_of g k l) (sym_op k A) (sym_op l B) in
       let parts =
-      passed_meant at_most ends_guard ends_allowed asks_guard asks_allowed tests f k l v a b declared names both why e in
+      passed_meant at_most ends_guard ends_allowed asks_guard asks_allowed tests f k l v a b
+      declared names both why e in
       elim agreed_or_not [
         | inl (same, holds) ↦ (let clash : None ≡ Some why = sym holds ∙ parts.1 in absurd (cc))
         | inr (other, fails) ↦ (parts.0, other)
@@ -251,7 +265,8 @@ module _ (at_most : EndsAtMost) (ends_guard : EndsGuard) (ends_allowed : EndsAll
   pub difference_held : AreMeant f k l a b → ended (difference_goal f g k l) ≡ None → Agree f g a b
   difference_held meant e =
       let both = unless_agreed (cases_of f k l) (cases_of g k l) (sym_op k A) (sym_op l B) in
-      let passes = meant_pass at_most ends_guard ends_allowed asks_guard asks_allowed tests f k l v a b declared names both meant in
+      let passes = meant_pass at_most ends_guard ends_allowed asks_guard asks_allowed tests f k l v a b
+      declared names both meant in
       elim agreed_or_not [
         | inl (same, holds) ↦ same
         | inr (other, fails) ↦ (let clash : Some Operations ≡ None = sym fails ∙ (sym passes ∙ e) in absurd (cc))

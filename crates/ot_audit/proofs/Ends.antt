@@ -1,7 +1,7 @@
 -- Where the plan of a goal about guards ends at one valuation, whose names stand for two operations: in a failing end
 -- exactly where the operations are meant and the target is reached there.
-use Rattle.std.proofs.Common.{◌≡◌, ℕ, ℤ, pos, ◌+ℤ◌, ◌≤ℤ◌, Bool, true, false, if◌then◌else◌, int_le, Option, Some, None, List, [], ◌∷◌, take, refl, sym, ◌∙◌, ap}
-use Rattle.std.proofs.Common.{subst, arith}
+use Rattle.std.proofs.Common.{◌≡◌, ℕ, ℤ, pos, ◌+ℤ◌, ◌≤ℤ◌, Bool, true, false, if◌then◌else◌, int_le, Option, Some, None}
+use Rattle.std.proofs.Common.{List, [], ◌∷◌, take, refl, sym, ◌∙◌, ap, subst, arith}
 use Rattle.std.specs.Prelude.{slice_get}
 use Rattle.std.proofs.lemmas.Int.{ints}
 use Rattle.ot_model.specs.declared.op.Kind.{Kind}
@@ -42,29 +42,35 @@ EndsAtMost =
 
 abbrev pub EndsGuard : Type 0
 EndsGuard =
-    (g : Formula) (v : ℕ → ℤ) (x y : SymOp) (a b : Op) (p q : Plan Why) → v zero_name ≡ pos 0 → StandsForOperation v x a → StandsForOperation v y b
+    (g : Formula) (v : ℕ → ℤ) (x y : SymOp) (a b : Op) (p q : Plan Why) → v zero_name ≡ pos 0 → StandsForOperation v x a
+    → StandsForOperation v y b
     → end_of (ask_guard g x y p q) v ≡ (if holds_of g a b then end_of p v else end_of q v)
 
 abbrev pub EndsAllowed : Type 0
 EndsAllowed =
-    (f : Function) (v : ℕ → ℤ) (x y : SymOp) (a b : Op) (p : Plan Why) → v zero_name ≡ pos 0 → StandsForOperation v x a → StandsForOperation v y b
+    (f : Function) (v : ℕ → ℤ) (x y : SymOp) (a b : Op) (p : Plan Why) → v zero_name ≡ pos 0 → StandsForOperation v x a
+    → StandsForOperation v y b
     → end_of (ask_allowed f.head x y p) v ≡ (if is_allowed f a b then end_of p v else None)
 
 abbrev pub AsksGuard : Type 0
 AsksGuard = (g : Formula) (a b : SymOp) (p q : Plan Why) → ask_form (guard_form g a b) p q ≡ ask_guard g a b p q
 
 abbrev pub AsksAllowed : Type 0
-AsksAllowed = (f : Function) (a b : SymOp) (next : GoalTree) → ask_goal f (if_allowed f.head a b next) ≡ ask_allowed f.head a b (ask_goal f next)
+AsksAllowed = (f : Function) (a b : SymOp) (next : GoalTree)
+    → ask_goal f (if_allowed f.head a b next) ≡ ask_allowed f.head a b (ask_goal f next)
 
 abbrev pub TestsAllowed : Type 0
-TestsAllowed = (f : Function) (a b : Op) → ((is_allowed f a b ≡ true) → IsAllowed f a b) × (IsAllowed f a b → (is_allowed f a b ≡ true))
+TestsAllowed = (f : Function) (a b : Op)
+    → ((is_allowed f a b ≡ true) → IsAllowed f a b) × (IsAllowed f a b → (is_allowed f a b ≡ true))
 
 -- a cause comes by the way that ends in it
-pub some_passed : {X : Type 0} (b : Bool) (o : Option X) (x : X) → (if b then o else None) ≡ Some x → (b ≡ true) × (o ≡ Some x)
+pub some_passed : {X : Type 0} (b : Bool) (o : Option X) (x : X) → (if b then o else None) ≡ Some x
+    → (b ≡ true) × (o ≡ Some x)
 some_passed true o x e = (refl, e)
 some_passed false o x e = absurd (cc)
 
-some_stopped : {X : Type 0} (b : Bool) (o : Option X) (x : X) → (if b then None else o) ≡ Some x → (b ≡ false) × (o ≡ Some x)
+some_stopped : {X : Type 0} (b : Bool) (o : Option X) (x : X) → (if b then None else o) ≡ Some x
+    → (b ≡ false) × (o ≡ Some x)
 some_stopped true o x e = absurd (cc)
 some_stopped false o x e = (refl, e)
 
@@ -83,7 +89,8 @@ pub true_le : (x y : ℤ) → x ≤ℤ y → int_le x y ≡ true
 true_le x y h = grind (arith, ints)
 
 -- names stand for an operation of their kind, at its position
-pub kind_named : (v : ℕ → ℤ) (k : Kind) (who : Who) (a : Op) → StandsForOperation v (sym_op k who) a → kind_of a ≡ Some k
+pub kind_named : (v : ℕ → ℤ) (k : Kind) (who : Who) (a : Op)
+    → StandsForOperation v (sym_op k who) a → kind_of a ≡ Some k
 kind_named v kinds.Ins who a stands = sym stands.kind
 kind_named v kinds.Del who a stands = sym stands.kind
 kind_named v kinds.Upd who a stands = sym stands.kind
@@ -91,7 +98,8 @@ kind_named v kinds.Upd who a stands = sym stands.kind
 without_offset : (x y : ℤ) → (x +ℤ pos 0) ≡ y → x ≡ y
 without_offset x y e = omega (arith, ints)
 
-pub at_named : (v : ℕ → ℤ) (k : Kind) (who : Who) (a : Op) → StandsForOperation v (sym_op k who) a → v (position_name who) ≡ at_of a
+pub at_named : (v : ℕ → ℤ) (k : Kind) (who : Who) (a : Op) → StandsForOperation v (sym_op k who) a
+    → v (position_name who) ≡ at_of a
 at_named v kinds.Ins who a stands = without_offset (v (position_name who)) (at_of a) stands.at
 at_named v kinds.Del who a stands = without_offset (v (position_name who)) (at_of a) stands.at
 at_named v kinds.Upd who a stands = without_offset (v (position_name who)) (at_of a) stands.at
@@ -132,9 +140,11 @@ module _ (at_most : EndsAtMost) (f : Function) (v : ℕ → ℤ) (z : v zero_nam
       (first.0, second.0)
 
 -- at names that stand for two operations of the kinds
-module _ (at_most : EndsAtMost) (ends_guard : EndsGuard) (ends_allowed : EndsAllowed) (asks_guard : AsksGuard) (asks_allowed : AsksAllowed)
+module _ (at_most : EndsAtMost) (ends_guard : EndsGuard) (ends_allowed : EndsAllowed) (asks_guard : AsksGuard)
+    (asks_allowed : AsksAllowed)
     (tests : TestsAllowed)
-    (f : Function) (k l : Kind) (v : ℕ → ℤ) (a b : Op) (declared : is_declared_pair f.head k l ≡ true) (names : NamesTwo k l v a b) where
+    (f : Function) (k l : Kind) (v : ℕ → ℤ) (a b : Op) (declared : is_declared_pair f.head k l ≡ true)
+    (names : NamesTwo k l v a b) where
   abbrev ended : GoalTree → Option Why
   ended g = end_of (ask_goal f g) v
 
@@ -146,7 +156,8 @@ module _ (at_most : EndsAtMost) (ends_guard : EndsGuard) (ends_allowed : EndsAll
 
   end_guard :
       (g : Formula) (on_yes on_no : GoalTree)
-      → ended (If (guard_form g first_op second_op) on_yes on_no) ≡ (if holds_of g a b then ended on_yes else ended on_no)
+      → ended (If (guard_form g first_op second_op) on_yes on_no)
+      ≡ (if holds_of g a b then ended on_yes else ended on_no)
   unfolding ask_goal
   end_guard g on_yes on_no =
       ap (λ p. end_of p v) (asks_guard g first_op second_op (ask_goal f on_yes) (ask_goal f on_no))
@@ -159,13 +170,15 @@ module _ (at_most : EndsAtMost) (ends_guard : EndsGuard) (ends_allowed : EndsAll
   end_unless g on_no = end_guard g Holds on_no
 
   end_own :
-      (g : Formula) → ended (If (guard_form g first_op second_op) found Holds) ≡ (if holds_of g a b then Some Operations else None)
+      (g : Formula) → ended (If (guard_form g first_op second_op) found Holds)
+      ≡ (if holds_of g a b then Some Operations else None)
   unfolding ask_goal
   end_own g = end_guard g found Holds
 
   -- behind guards that are false the plan goes on, and it fails only so
   all_false_pass :
-      (cs : List GuardedCase) (next : GoalTree) → AreFalse cs a b → ended (unless_true cs first_op second_op next) ≡ ended next
+      (cs : List GuardedCase) (next : GoalTree) → AreFalse cs a b
+      → ended (unless_true cs first_op second_op next) ≡ ended next
   all_false_pass [] next none = refl
   all_false_pass (c ∷ cs) next none =
       end_unless c.guard (unless_true cs first_op second_op next)
@@ -197,7 +210,8 @@ module _ (at_most : EndsAtMost) (ends_guard : EndsGuard) (ends_allowed : EndsAll
       → ended (at_target cs target first_op second_op) ≡ Some Operations
   unfolding ask_goal
   reached_fails cs (Case i) is =
-      all_false_pass (take i cs) (at_own (slice_get cs i) first_op second_op) is.earlier ∙ own_fails (slice_get cs i) is.own
+      all_false_pass (take i cs) (at_own (slice_get cs i) first_op second_op) is.earlier
+      ∙ own_fails (slice_get cs i) is.own
   reached_fails cs Open is = all_false_pass cs found is
 
   failed_reached :
@@ -210,7 +224,8 @@ module _ (at_most : EndsAtMost) (ends_guard : EndsGuard) (ends_allowed : EndsAll
 
   -- a goal of operations that are meant fails as the goal behind it does
   end_allowed :
-      (next : GoalTree) → ended (if_allowed f.head first_op second_op next) ≡ (if is_allowed f a b then ended next else None)
+      (next : GoalTree)
+      → ended (if_allowed f.head first_op second_op next) ≡ (if is_allowed f a b then ended next else None)
   end_allowed next =
       ap (λ p. end_of p v) (asks_allowed f first_op second_op next)
       ∙ ends_allowed f v first_op second_op a b (ask_goal f next) names.zero names.first names.second
@@ -220,7 +235,8 @@ module _ (at_most : EndsAtMost) (ends_guard : EndsGuard) (ends_allowed : EndsAll
   meant_pass next meant =
       let posed = posed_where_meant f k l a b meant in
       let low : pos 0 ≤ℤ v (position_name A) = subst (λ x. pos 0 ≤ℤ x) (sym (at_named v k A a names.first)) posed.3 in
-      let other_low : pos 0 ≤ℤ v (position_name B) = subst (λ x. pos 0 ≤ℤ x) (sym (at_named v l B b names.second)) posed.4 in
+      let other_low : pos 0 ≤ℤ v (position_name B) =
+      subst (λ x. pos 0 ≤ℤ x) (sym (at_named v l B b names.second)) posed.4 in
       there_passes at_most f v names.zero A (if_there B (if_allowed f.head first_op second_op next)) low
       ∙ there_passes at_most f v names.zero B (if_allowed f.head first_op second_op next) other_low
       ∙ end_allowed next
@@ -231,7 +247,8 @@ module _ (at_most : EndsAtMost) (ends_guard : EndsGuard) (ends_allowed : EndsAll
       (next : GoalTree) (why : Why) → ended (if_meant f.head first_op second_op next) ≡ Some why
       → AreMeant f k l a b × (ended next ≡ Some why)
   passed_meant next why e =
-      let first = there_passed at_most f v names.zero A (if_there B (if_allowed f.head first_op second_op next)) why e in
+      let first = there_passed at_most f v names.zero A
+      (if_there B (if_allowed f.head first_op second_op next)) why e in
       let second = there_passed at_most f v names.zero B (if_allowed f.head first_op second_op next) why first.1 in
       let both = some_passed (is_allowed f a b) (ended next) why (sym (end_allowed next) ∙ second.1) in (
         meant_where_posed f k l a b declared (
@@ -247,7 +264,8 @@ module _ (at_most : EndsAtMost) (ends_guard : EndsGuard) (ends_allowed : EndsAll
   pub target_fails :
       (target : Target) → ReachesTarget f k l target a b → ended (target_goal f k l target) ≡ Some Operations
   target_fails target (meant, reached) =
-      meant_pass (at_target (cases_of f k l) target first_op second_op) meant ∙ reached_fails (cases_of f k l) target reached
+      meant_pass (at_target (cases_of f k l) target first_op second_op) meant
+      ∙ reached_fails (cases_of f k l) target reached
 
   pub target_sought :
       (target : Target) (why : Why) → ended (target_goal f k l target) ≡ Some why → ReachesTarget f k l target a b

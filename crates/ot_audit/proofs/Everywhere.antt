@@ -8,8 +8,8 @@ use Rattle.ot_model.specs.declared.op.Op.{Op}
 use Rattle.ot_model.specs.Kinds.{kind_pairs}
 use Rattle.fn_rules.specs.Functions.{Function, is_declared_of, is_declared_pair}
 use Rattle.ot_questions.proofs.Listed.{of_contained}
-use Rattle.audit_answers.specs.declared.audits.Same.{Same}
-use Rattle.audit_answers.specs.declared.audits.Same.TheVariants.{Everywhere}
+use Rattle.ot_audit.specs.declared.audits.Same.{Same}
+use Rattle.ot_audit.specs.declared.audits.Same.TheVariants.{Everywhere}
 use Rattle.ot_audit.specs.declared.found.Agree.{Agree as Answer}
 use Rattle.ot_audit.specs.declared.found.Agree.TheVariants as agrees
 use Rattle.ot_audit.specs.Answers.{IsAgreedAs}
@@ -36,7 +36,8 @@ AgreeOn f g block = (a b : Op) → AreMeant f block.0 block.1 a b → Agree f g 
 
 goes_everywhere :
     (f g : Function) (budget : ℕ) (block : Kind × Kind) (answer : Answer) (Behind : Same → Type 0)
-    → IsAgreedAs f g block.0 block.1 budget answer → GoesOnWhereSame block answer Behind Everywhere → AgreeOn f g block × Behind Everywhere
+    → IsAgreedAs f g block.0 block.1 budget answer → GoesOnWhereSame block answer Behind Everywhere
+    → AgreeOn f g block × Behind Everywhere
 goes_everywhere f g budget block agrees.Same Behind is goes = (is.tells, goes)
 goes_everywhere f g budget block (agrees.Pair a b left right) Behind is goes = absurd (cc)
 goes_everywhere f g budget block agrees.Spent Behind is goes = absurd (cc)
@@ -59,4 +60,5 @@ pub agree_everywhere :
 agree_everywhere listed f g budget k l a b (inl (differ, is)) declared meant = absurd (cc)
 agree_everywhere listed f g budget k l a b (inr (heads, is)) declared meant =
     of_contained (λ block. is_declared_of f.head block ≡ true → AgreeOn f g block) kind_pairs (k, l)
-    (of_kept (is_declared_of f.head) (AgreeOn f g) kind_pairs (on_blocks f g budget _ is)) (listed k l) declared a b meant
+    (of_kept (is_declared_of f.head) (AgreeOn f g) kind_pairs (on_blocks f g budget _ is))
+    (listed k l) declared a b meant

@@ -32,20 +32,28 @@ far_enough : (x : ℤ) (m : ℕ) → pos 0 ≤ℤ x → unsigned_abs x + 1 ≤ m
 far_enough (pos x) m low h = omega (arith, ints)
 far_enough (negsuc x) m low h = absurd (omega (arith, ints))
 
-declared_kind : (head : Head) (k : Kind) (o : Op) → kind_of o ≡ Some k → is_declared head k ≡ true → HasDeclaredKind head (kind_of o)
+declared_kind : (head : Head) (k : Kind) (o : Op) → kind_of o ≡ Some k → is_declared head k ≡ true
+    → HasDeclaredKind head (kind_of o)
 declared_kind head k o is declared = subst (λ kind. has_declared_kind head kind ≡ true) (sym is) declared
 
 -- what is asked of operations that are meant
 abbrev pub Posed : Function → Kind → Kind → Op → Op → Type 0
-Posed f k l a b = (kind_of a ≡ Some k) × (kind_of b ≡ Some l) × IsAllowed f a b × (pos 0 ≤ℤ at_of a) × (pos 0 ≤ℤ at_of b)
+Posed f k l a b =
+    (kind_of a ≡ Some k) × (kind_of b ≡ Some l) × IsAllowed f a b × (pos 0 ≤ℤ at_of a) × (pos 0 ≤ℤ at_of b)
 
 pub posed_where_meant : (f : Function) (k l : Kind) (a b : Op) → AreMeant f k l a b → Posed f k l a b
 posed_where_meant f k l a b meant =
-    let both = meant.concurrent in
-    (meant.first, meant.second, both.2.0, not_negative a (length meant.document) both.1, not_negative b (length meant.document) both.3.1)
+    let both = meant.concurrent in (
+      meant.first,
+      meant.second,
+      both.2.0,
+      not_negative a (length meant.document) both.1,
+      not_negative b (length meant.document) both.3.1,
+    )
 
 -- operations of which it is asked are meant, on a document that is long enough
-pub meant_where_posed : (f : Function) (k l : Kind) (a b : Op) → is_declared_pair f.head k l ≡ true → Posed f k l a b → AreMeant f k l a b
+pub meant_where_posed : (f : Function) (k l : Kind) (a b : Op) → is_declared_pair f.head k l ≡ true
+    → Posed f k l a b → AreMeant f k l a b
 meant_where_posed f k l a b declared (first, second, allowed, low, other_low) =
     let n = unsigned_abs (at_of a) + unsigned_abs (at_of b) + 1 in
     let is_long : length (replicate n (live_cell 121)) ≡ n = length-replicate n (live_cell 121) in
@@ -60,7 +68,8 @@ meant_where_posed f k l a b declared (first, second, allowed, low, other_low) =
         (allowed, tt),
         (
           declared_kind f.head l b second kinds.1,
-          subst (IsEnabled b) (sym is_long) (enabled_before b n other_low (far_enough (at_of b) n other_low (omega arith))),
+          subst (IsEnabled b) (sym is_long)
+              (enabled_before b n other_low (far_enough (at_of b) n other_low (omega arith))),
           tt,
           tt,
         ),

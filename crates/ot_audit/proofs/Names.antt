@@ -1,7 +1,8 @@
 -- One walk through the goals about guards: what holds of the places of two operations, also moved by a small offset,
 -- holds of each place of the goal. So the goals have places over few names, and ask of the operations alone.
-use Rattle.std.proofs.Common.{◌≡◌, ℕ, zero, suc, ◌<◌, ℤ, pos, negsuc, ◌-ℤ◌, int_le, Bool, true, false, ◌||◌, nat_eq, Option, Some, None, List, [], ◌∷◌, take}
-use Rattle.std.proofs.Common.{if◌then◌else◌, refl, sym, subst, arith, lit<, ◌⊎◌, inl, inr}
+use Rattle.std.proofs.Common.{◌≡◌, ℕ, zero, suc, ◌<◌, ℤ, pos, negsuc, ◌-ℤ◌, int_le, Bool, true, false, ◌||◌, nat_eq}
+use Rattle.std.proofs.Common.{Option, Some, None, List, [], ◌∷◌, take, if◌then◌else◌, refl, sym, subst, arith, lit<}
+use Rattle.std.proofs.Common.{◌⊎◌, inl, inr}
 use Rattle.std.specs.Prelude.{slice_get}
 use Rattle.std.specs.List.{AllByRecursion}
 use Rattle.std.proofs.lemmas.Bool.{false≢true}
@@ -34,8 +35,8 @@ use Rattle.ot_questions.specs.declared.place.SymOp.TheVariants.{Ins, Del, Upd, N
 use Rattle.ot_questions.specs.declared.why.Why.{Why}
 use Rattle.ot_questions.specs.Names.{position_name, site_name, char_name}
 use Rattle.ot_questions.specs.Nears.{IsNear, HasNearAtoms, IsNearCase}
-use Rattle.ot_questions.specs.Places.{place, plus, zero_place, place_of_name, sym_op, sym_at, sym_kind, sym_site, sym_char, sym_placed, sym_result, sym_thing}
-use Rattle.ot_questions.specs.Places.{offset_of}
+use Rattle.ot_questions.specs.Places.{place, plus, zero_place, place_of_name, sym_op, sym_at, sym_kind, sym_site}
+use Rattle.ot_questions.specs.Places.{sym_char, sym_placed, sym_result, sym_thing, offset_of}
 use Rattle.ot_questions.specs.Questions.{ask_le, ask_lt, ask_eq}
 use Rattle.ot_questions.specs.Sorts.{speaks_of}
 use Rattle.ot_terms.specs.Belonging.{HasParts, HasPlaces, IsPlace, IsLowerable}
@@ -47,7 +48,8 @@ use Rattle.ot_terms.specs.Starting.{if_differ, if_assumed, if_allowed}
 use Rattle.fn_rules.specs.declared.function.Head.{Head}
 use Rattle.ot_audit.specs.declared.target.Target.{Target}
 use Rattle.ot_audit.specs.declared.target.Target.TheVariants.{Case, Open}
-use Rattle.ot_audit.specs.Goals.{found, if_there, if_meant, unless_true, at_own, at_target, with_first_result, unless_one_place, unless_same, unless_agreed}
+use Rattle.ot_audit.specs.Goals.{found, if_there, if_meant, unless_true, at_own, at_target, with_first_result}
+use Rattle.ot_audit.specs.Goals.{unless_one_place, unless_same, unless_agreed}
 
 abbrev pub PlacesOf : (Place → Type 0) → FormTree → Type 0
 PlacesOf Q True = Unit {0}
@@ -94,12 +96,14 @@ abbrev pub IfThere : (GuardedCase → Type 0) → Option GuardedCase → Type 0
 IfThere P None = Unit {0}
 IfThere P (Some c) = P c
 
-pub all_taken : (P : GuardedCase → Type 0) (cs : List GuardedCase) (i : ℕ) → AllByRecursion P cs → AllByRecursion P (take i cs)
+pub all_taken : (P : GuardedCase → Type 0) (cs : List GuardedCase) (i : ℕ) → AllByRecursion P cs
+    → AllByRecursion P (take i cs)
 all_taken P cs zero all = tt
 all_taken P [] (suc i) all = tt
 all_taken P (c ∷ cs) (suc i) all = (all.0, all_taken P cs i all.1)
 
-pub all_got : (P : GuardedCase → Type 0) (cs : List GuardedCase) (i : ℕ) → AllByRecursion P cs → IfThere P (slice_get cs i)
+pub all_got : (P : GuardedCase → Type 0) (cs : List GuardedCase) (i : ℕ) → AllByRecursion P cs
+    → IfThere P (slice_get cs i)
 all_got P [] zero all = tt
 all_got P [] (suc i) all = tt
 all_got P (c ∷ cs) zero all = all.0
@@ -121,11 +125,12 @@ module _ (Q : Place → Type 0) (at_zero : Serves Q zero_place) where
   -- of two operations of which it holds
   module _ (a b : SymOp) (ha : OpServes Q a) (hb : OpServes Q b) where
     atom_places : (atom : Atom) (side : Side) → IsNear 99 atom.k
-        → PlacesOf Q (compared atom.cmp (sym_thing atom.sort (of_side side a b)) (plus (sym_thing atom.sort (of_side (other_side side) a b)) atom.k))
-    atom_places atom First near = compared_places atom.cmp (sym_thing atom.sort a) (plus (sym_thing atom.sort b) atom.k) (ha atom.sort).0
-        ((hb atom.sort).1 atom.k near)
-    atom_places atom Second near = compared_places atom.cmp (sym_thing atom.sort b) (plus (sym_thing atom.sort a) atom.k) (hb atom.sort).0
-        ((ha atom.sort).1 atom.k near)
+        → PlacesOf Q (compared atom.cmp (sym_thing atom.sort (of_side side a b))
+        (plus (sym_thing atom.sort (of_side (other_side side) a b)) atom.k))
+    atom_places atom First near = compared_places atom.cmp (sym_thing atom.sort a) (plus (sym_thing atom.sort b) atom.k)
+        (ha atom.sort).0 ((hb atom.sort).1 atom.k near)
+    atom_places atom Second near = compared_places atom.cmp (sym_thing atom.sort b)
+        (plus (sym_thing atom.sort a) atom.k) (hb atom.sort).0 ((ha atom.sort).1 atom.k near)
 
     pub guard_places : (g : Formula) → HasNearAtoms g → PlacesOf Q (guard_form g a b)
     guard_places guards.Always near = tt
@@ -139,14 +144,16 @@ module _ (Q : Place → Type 0) (at_zero : Serves Q zero_place) where
     result_by (results.Keep Second k) near = placed_at a (plus (sym_at b) k) ((hb Pos).1 k near)
     result_by results.Nop near = at_zero.0
 
-    there_of : (who : Who) (next : GoalTree) → Q (place (position_name who) (pos 0)) → GoalOf Q next → GoalOf Q (if_there who next)
+    there_of : (who : Who) (next : GoalTree) → Q (place (position_name who) (pos 0)) → GoalOf Q next
+        → GoalOf Q (if_there who next)
     there_of who next at h = ((at_zero.0, at), h, tt)
 
     -- names that are there, of which it holds
     abbrev NameServes : Option ℕ → Type 0
     NameServes x = Q (place_of_name x)
 
-    differ_of : (x y : Option ℕ) (next : GoalTree) → NameServes x → NameServes y → GoalOf Q next → GoalOf Q (if_differ x y next)
+    differ_of : (x y : Option ℕ) (next : GoalTree) → NameServes x → NameServes y → GoalOf Q next
+        → GoalOf Q (if_differ x y next)
     differ_of None y next hx hy h = h
     differ_of (Some x) None next hx hy h = h
     differ_of (Some x) (Some y) next hx hy h = ((hx, hy), tt, h)
@@ -159,18 +166,21 @@ module _ (Q : Place → Type 0) (at_zero : Serves Q zero_place) where
 
     pub allowed_of : (head : Head) (next : GoalTree) → GoalOf Q next → GoalOf Q (if_allowed head a b next)
     allowed_of head next h =
-        assumed_of head.sites_differ (sym_site a) (sym_site b) (if_assumed head.chars_differ (sym_char a) (sym_char b) next)
-        (ha Site).0 (hb Site).0
+        assumed_of head.sites_differ (sym_site a) (sym_site b)
+        (if_assumed head.chars_differ (sym_char a) (sym_char b) next) (ha Site).0 (hb Site).0
         (assumed_of head.chars_differ (sym_char a) (sym_char b) next (ha Char).0 (hb Char).0 h)
 
     pub meant_of :
-        (head : Head) (next : GoalTree) → Q (place (position_name A) (pos 0)) → Q (place (position_name B) (pos 0)) → GoalOf Q next
+        (head : Head) (next : GoalTree) → Q (place (position_name A) (pos 0))
+        → Q (place (position_name B) (pos 0)) → GoalOf Q next
         → GoalOf Q (if_meant head a b next)
     meant_of head next first second h =
-        there_of A (if_there B (if_allowed head a b next)) first (there_of B (if_allowed head a b next) second (allowed_of head next h))
+        there_of A (if_there B (if_allowed head a b next)) first
+        (there_of B (if_allowed head a b next) second (allowed_of head next h))
 
     unless_true_of :
-        (cs : List GuardedCase) (next : GoalTree) → AllByRecursion IsNearCase cs → GoalOf Q next → GoalOf Q (unless_true cs a b next)
+        (cs : List GuardedCase) (next : GoalTree) → AllByRecursion IsNearCase cs → GoalOf Q next
+        → GoalOf Q (unless_true cs a b next)
     unless_true_of [] next near h = h
     unless_true_of (c ∷ cs) next near h = (guard_places c.guard near.0.0, tt, unless_true_of cs next near.1 h)
 
@@ -178,9 +188,10 @@ module _ (Q : Place → Type 0) (at_zero : Serves Q zero_place) where
     own_of None near = tt
     own_of (Some c) near = (guard_places c.guard near.0, tt, tt)
 
-    pub target_of : (cs : List GuardedCase) (target : Target) → AllByRecursion IsNearCase cs → GoalOf Q (at_target cs target a b)
-    target_of cs (Case i) near = unless_true_of (take i cs) (at_own (slice_get cs i) a b) (all_taken IsNearCase cs i near)
-        (own_of (slice_get cs i) (all_got IsNearCase cs i near))
+    pub target_of : (cs : List GuardedCase) (target : Target) → AllByRecursion IsNearCase cs
+        → GoalOf Q (at_target cs target a b)
+    target_of cs (Case i) near = unless_true_of (take i cs) (at_own (slice_get cs i) a b)
+        (all_taken IsNearCase cs i near) (own_of (slice_get cs i) (all_got IsNearCase cs i near))
     target_of cs Open near = unless_true_of cs found near tt
 
     -- goes on with results of which it holds
@@ -188,21 +199,27 @@ module _ (Q : Place → Type 0) (at_zero : Serves Q zero_place) where
         (cs : List GuardedCase) (go : Option SymOp → GoalTree) → AllByRecursion IsNearCase cs → GoalOf Q (go None)
         → ((r : SymOp) → Q (sym_at r) → GoalOf Q (go (Some r))) → GoalOf Q (with_first_result cs a b go)
     with_result_of [] go near none goes = none
-    with_result_of (c ∷ cs) go near none goes =
-        (guard_places c.guard near.0.0, goes (sym_result c.res a b) (result_by c.res near.0.1), with_result_of cs go near.1 none goes)
+    with_result_of (c ∷ cs) go near none goes = (
+      guard_places c.guard near.0.0,
+      goes (sym_result c.res a b) (result_by c.res near.0.1),
+      with_result_of cs go near.1 none goes,
+    )
 
-    pub one_place_of : (j k : Option Kind) (at there : Place) → Q at → Q there → GoalOf Q (unless_one_place j k at there)
+    pub one_place_of : (j k : Option Kind) (at there : Place) → Q at → Q there
+        → GoalOf Q (unless_one_place j k at there)
     one_place_of None None at there h g = tt
     one_place_of None (Some k) at there h g = tt
     one_place_of (Some j) None at there h g = tt
     one_place_of (Some j) (Some k) at there h g = ((h, g), tt, tt)
 
     pub agreed_of :
-        (cs ds : List GuardedCase) → AllByRecursion IsNearCase cs → AllByRecursion IsNearCase ds → GoalOf Q (unless_agreed cs ds a b)
+        (cs ds : List GuardedCase) → AllByRecursion IsNearCase cs → AllByRecursion IsNearCase ds
+        → GoalOf Q (unless_agreed cs ds a b)
     agreed_of cs ds near other_near =
         with_result_of cs (λ x. with_first_result ds a b (λ y. unless_same x y)) near
         (with_result_of ds (λ y. unless_same None y) other_near tt (λ y hy. tt))
-        (λ x hx. with_result_of ds (λ y. unless_same (Some x) y) other_near tt (λ y hy. one_place_of (sym_kind x) (sym_kind y) (sym_at x) (sym_at y) hx hy))
+        (λ x hx. with_result_of ds (λ y. unless_same (Some x) y) other_near tt
+        (λ y hy. one_place_of (sym_kind x) (sym_kind y) (sym_at x) (sym_at y) hx hy))
 
 -- a place over the names of a pair, with a small offset
 pub record IsSmallPlace (x : Place) : Type 0 where
@@ -212,7 +229,10 @@ pub record IsSmallPlace (x : Place) : Type 0 where
 as_place : (x : Place) → IsSmallPlace x → IsPlace 9 x
 as_place x h =
     let near = h.near in
-    record { name = h.name; near = record { low = omega (arith, ints, near.low); high = omega (arith, ints, near.high) } }
+    record {
+      name = h.name;
+      near = record { low = omega (arith, ints, near.low); high = omega (arith, ints, near.high) };
+    }
 
 as_lowerable : (x : Place) → IsSmallPlace x → IsLowerable 9 x
 as_lowerable x h =
@@ -238,20 +258,27 @@ parts_small f k l (Same left right) h = absurd h
 
 pub small_moved : (x : ℕ) (k : ℤ) → x < 9 → IsNear 99 k → IsSmallPlace (plus (place x (pos 0)) k)
 small_moved x k below near =
-    record { name = below; near = record { low = omega (arith, ints, near.low); high = omega (arith, ints, near.high) } }
+    record {
+      name = below;
+      near = record { low = omega (arith, ints, near.low); high = omega (arith, ints, near.high) };
+    }
 
 pub small_name : (x : ℕ) → x < 9 → Serves IsSmallPlace (place x (pos 0))
-small_name x below =
-    (record { name = below; near = record { low = omega (arith, ints); high = omega (arith, ints) } }, λ k near. small_moved x k below near)
+small_name x below = (
+  record { name = below; near = record { low = omega (arith, ints); high = omega (arith, ints) } },
+  λ k near. small_moved x k below near,
+)
 
 pub small_zero : Serves IsSmallPlace zero_place
 small_zero = small_name 0 (lit< tt)
 
 pub small_first : (k : Kind) → OpServes IsSmallPlace (sym_op k A)
-small_first k = op_serves IsSmallPlace k A small_zero (small_name 3 (lit< tt)) (small_name 4 (lit< tt)) (small_name 5 (lit< tt))
+small_first k =
+    op_serves IsSmallPlace k A small_zero (small_name 3 (lit< tt)) (small_name 4 (lit< tt)) (small_name 5 (lit< tt))
 
 pub small_second : (k : Kind) → OpServes IsSmallPlace (sym_op k B)
-small_second k = op_serves IsSmallPlace k B small_zero (small_name 6 (lit< tt)) (small_name 7 (lit< tt)) (small_name 8 (lit< tt))
+small_second k =
+    op_serves IsSmallPlace k B small_zero (small_name 6 (lit< tt)) (small_name 7 (lit< tt)) (small_name 8 (lit< tt))
 
 pub small_position : (who : Who) → position_name who < 9 → IsSmallPlace (place (position_name who) (pos 0))
 small_position who below = (small_name (position_name who) below).0
@@ -306,7 +333,8 @@ module _ (P : ℕ → Type 0) where
   either_way true b e = inl refl
   either_way false b e = inr e
 
-  by_name : (m : Lit) (w : List Lit) (x : ℕ) → P m.x → P m.y → (speaks_of w x ≡ true → P x) → speaks_of (m ∷ w) x ≡ true → P x
+  by_name : (m : Lit) (w : List Lit) (x : ℕ) → P m.x → P m.y → (speaks_of w x ≡ true → P x)
+      → speaks_of (m ∷ w) x ≡ true → P x
   by_name m w x first second others e =
       elim (either_way (nat_eq m.x x || nat_eq m.y x) (speaks_of w x) e) [
         | inl one ↦

@@ -1,6 +1,6 @@
 -- What is answered is one.
-use Rattle.std.proofs.Common.{◌≡◌, ℕ, ◌+◌, ◌<◌, ◌≤◌, ℤ, pos, ◌≤ℤ◌, Option, Some, None, List, [], ◌∷◌, length, MatchOption, refl, sym, ap, ◌∙◌, subst, inl, inr}
-use Rattle.std.proofs.Common.{arith}
+use Rattle.std.proofs.Common.{◌≡◌, ℕ, ◌+◌, ◌<◌, ◌≤◌, ℤ, pos, ◌≤ℤ◌, Option, Some, None, List, [], ◌∷◌, length}
+use Rattle.std.proofs.Common.{MatchOption, refl, sym, ap, ◌∙◌, subst, inl, inr, arith}
 use Rattle.std.proofs.lemmas.Bool.Decides.{leb_tells}
 use Rattle.std.proofs.lemmas.Int.{ints}
 use Rattle.std.proofs.lemmas.List.{ext_get_or}
@@ -19,10 +19,10 @@ use Rattle.ot_questions.specs.Meaning.{op_at}
 use Rattle.ot_questions.specs.Places.{sym_op}
 use Rattle.ot_terms.specs.Goals.{GoalTree}
 use Rattle.ot_values.specs.Values.{floors_of}
-use Rattle.audit_answers.specs.declared.audits.Audit.{Audit}
-use Rattle.audit_answers.specs.declared.audits.Audit.TheVariants as audits
-use Rattle.audit_answers.specs.declared.audits.BlockAudit.{BlockAudit}
-use Rattle.audit_answers.specs.declared.audits.Same.{Same}
+use Rattle.ot_audit.specs.declared.audits.Audit.{Audit}
+use Rattle.ot_audit.specs.declared.audits.Audit.TheVariants as audits
+use Rattle.ot_audit.specs.declared.audits.BlockAudit.{BlockAudit}
+use Rattle.ot_audit.specs.declared.audits.Same.{Same}
 use Rattle.ot_audit.specs.declared.found.Agree.{Agree}
 use Rattle.ot_audit.specs.declared.found.Agree.TheVariants as agrees
 use Rattle.ot_audit.specs.declared.found.Found.{Found}
@@ -30,7 +30,8 @@ use Rattle.ot_audit.specs.declared.found.Found.TheVariants.{Never, Pair, Spent}
 use Rattle.ot_audit.specs.declared.target.Target.{Target}
 use Rattle.ot_audit.specs.declared.target.Target.TheVariants.{Case, Open}
 use Rattle.ot_audit.specs.Answers.{IsAgreedAs, IsReachedAs, TellsFunctions, finding_of}
-use Rattle.ot_audit.specs.Audits.{AreAudits, AreCases, AreCompared, GoesOnWhereSame, HasLong, IsAuditedAs, IsBlockAudit, IsComparedAs, IsLong, found_of}
+use Rattle.ot_audit.specs.Audits.{AreAudits, AreCases, AreCompared, GoesOnWhereSame, HasLong, IsAuditedAs, IsBlockAudit}
+use Rattle.ot_audit.specs.Audits.{IsComparedAs, IsLong, found_of}
 use Rattle.ot_audit.specs.Findings.{AreLeastOps, IsFoundIn, TellsList}
 use Rattle.ot_audit.specs.Goals.{IsTargetOf}
 
@@ -43,7 +44,8 @@ no_higher : (a b : ℤ) → a ≤ℤ b → b ≤ℤ a → a ≡ b
 no_higher a b low high = omega (arith, ints)
 
 -- the least values are one
-pub least_once : (w : List Lit) (floors values others : List ℤ) → AreLeast w floors values → AreLeast w floors others → values ≡ others
+pub least_once : (w : List Lit) (floors values others : List ℤ) → AreLeast w floors values
+    → AreLeast w floors others → values ≡ others
 least_once w floors values others one other =
     ext_get_or (pos 0) values others (one.len ∙ sym other.len)
     (λ x few.
@@ -54,9 +56,11 @@ least_once w floors values others one other =
     (other.least (valuation_of values) one.zero_first one.met one.above x named))
 
 -- and so are the operations that they name
-pub ops_once : (k l : Kind) (w : List Lit) (a b c d : Op) → AreLeastOps k l w a b → AreLeastOps k l w c d → (a ≡ c) × (b ≡ d)
+pub ops_once : (k l : Kind) (w : List Lit) (a b c d : Op) → AreLeastOps k l w a b
+    → AreLeastOps k l w c d → (a ≡ c) × (b ≡ d)
 ops_once k l w a b c d one other =
-    let same : one.values ≡ other.values = least_once w (floors_of (obligations.Pair k l)) one.values other.values one.least other.least in (
+    let same : one.values ≡ other.values =
+    least_once w (floors_of (obligations.Pair k l)) one.values other.values one.least other.least in (
       one.first ∙ ap (λ (values : List ℤ). op_at (valuation_of values) (sym_op k A)) same ∙ sym other.first,
       one.second ∙ ap (λ (values : List ℤ). op_at (valuation_of values) (sym_op l B)) same ∙ sym other.second,
     )
@@ -72,7 +76,8 @@ end_once k l (Some e) a b c d one other = pair_of a b c d (ops_once k l e.answer
 
 -- a list has a failing end, or it has none
 no_end :
-    (k l : Kind) (o : Option (FailingEnd Why)) (a b : Op) → o ≡ None → MatchOption o ⊥ (λ e. AreLeastOps k l e.answers a b) → ⊥
+    (k l : Kind) (o : Option (FailingEnd Why)) (a b : Op) → o ≡ None
+    → MatchOption o ⊥ (λ e. AreLeastOps k l e.answers a b) → ⊥
 no_end k l None a b none ops = ops
 no_end k l (Some e) a b none ops = absurd (cc)
 
@@ -81,7 +86,8 @@ within_and_longer n budget within longer = omega arith
 
 -- two answers of one question list
 told_once :
-    (k l : Kind) (budget : ℕ) (q : Questions Why) (one other : Found) → TellsList k l budget q one → TellsList k l budget q other
+    (k l : Kind) (budget : ℕ) (q : Questions Why) (one other : Found) → TellsList k l budget q one
+    → TellsList k l budget q other
     → one ≡ other
 told_once k l budget q Never Never one other = refl
 told_once k l budget q Never (Pair c d) one other = absurd (no_end k l q.failing c d one.1 other.1)
@@ -141,7 +147,8 @@ module _ (one_list : OneList) where
       (subst (λ (q : Questions Why). TellsList k l budget q other) same so.told)
 
   pub reached_once :
-      (f : Function) (k l : Kind) (target : Target) (budget : ℕ) (one other : Found) → IsReachedAs f k l target budget one
+      (f : Function) (k l : Kind) (target : Target) (budget : ℕ) (one other : Found)
+      → IsReachedAs f k l target budget one
       → IsReachedAs f k l target budget other → one ≡ other
   reached_once f k l target budget one other is so = found_once f k l _ budget one other is.searched so.searched
 
@@ -149,8 +156,8 @@ module _ (one_list : OneList) where
       (f g : Function) (k l : Kind) (budget : ℕ) (one other : Agree) → IsAgreedAs f g k l budget one
       → IsAgreedAs f g k l budget other → one ≡ other
   agreed_once f g k l budget one other is so =
-      agreement_once f g k l one other (found_once f k l _ budget (finding_of one) (finding_of other) is.searched so.searched) is.tells
-      so.tells
+      agreement_once f g k l one other
+      (found_once f k l _ budget (finding_of one) (finding_of other) is.searched so.searched) is.tells so.tells
 
   module _ (f : Function) (budget : ℕ) where
     -- two lists of answers about the cases of a block
@@ -166,13 +173,16 @@ module _ (one_list : OneList) where
         let others : xs ≡ ys = cases_once k l (i + 1) xs ys (omega arith) is.1 so.1 in
         cc
 
-    block_audit_once : (block : Kind × Kind) (x y : BlockAudit) → IsBlockAudit f budget block x → IsBlockAudit f budget block y → x ≡ y
+    block_audit_once : (block : Kind × Kind) (x y : BlockAudit) → IsBlockAudit f budget block x
+        → IsBlockAudit f budget block y → x ≡ y
     block_audit_once block x y is so =
         block_once x y (is.first ∙ sym so.first) (is.second ∙ sym so.second)
         (cases_once block.0 block.1 0 x.cases y.cases (is.count ∙ sym so.count) is.cases so.cases)
-        (found_of_once x.gap y.gap (reached_once f block.0 block.1 Open budget (found_of x.gap) (found_of y.gap) is.gap so.gap))
+        (found_of_once x.gap y.gap
+        (reached_once f block.0 block.1 Open budget (found_of x.gap) (found_of y.gap) is.gap so.gap))
 
-    audits_once : (blocks : List (Kind × Kind)) (xs ys : List BlockAudit) → AreAudits f budget blocks xs → AreAudits f budget blocks ys → xs ≡ ys
+    audits_once : (blocks : List (Kind × Kind)) (xs ys : List BlockAudit) → AreAudits f budget blocks xs
+        → AreAudits f budget blocks ys → xs ≡ ys
     audits_once [] [] [] is so = refl
     audits_once [] [] (y ∷ ys) is so = absurd so
     audits_once [] (x ∷ xs) ys is so = absurd is
@@ -189,7 +199,8 @@ module _ (one_list : OneList) where
         → (x : Option (Op × Op)) × IsReachedAs f k l (Case j) budget (found_of x)
     case_in k l i j [] is low high = absurd (omega arith)
     case_in k l i j (x ∷ xs) is low high = elim (leb_tells j i) [
-      | inl (_, here) ↦ (x, subst (λ (n : ℕ). IsReachedAs f k l (Case n) budget (found_of x)) (omega (arith, here, low)) is.0)
+      | inl (_, here) ↦
+          (x, subst (λ (n : ℕ). IsReachedAs f k l (Case n) budget (found_of x)) (omega (arith, here, low)) is.0)
       | inr (_, behind) ↦ case_in k l (i + 1) j xs is.1 (omega (arith, behind)) (omega (arith, high))
     ]
 
@@ -207,7 +218,8 @@ module _ (one_list : OneList) where
         not_long_at Open there spent =
             not_spent x.gap (reached_once f block.0 block.1 Open budget Spent (found_of x.gap) spent is.gap)
 
-    none_long : (blocks : List (Kind × Kind)) (xs : List BlockAudit) → AreAudits f budget blocks xs → HasLong f budget blocks → ⊥
+    none_long : (blocks : List (Kind × Kind)) (xs : List BlockAudit) → AreAudits f budget blocks xs
+        → HasLong f budget blocks → ⊥
     none_long [] xs is long = long
     none_long (block ∷ blocks) [] is long = is
     none_long (block ∷ blocks) (x ∷ xs) is (inl long) = not_long block x is.0 long
@@ -221,8 +233,10 @@ module _ (one_list : OneList) where
     audited_once audits.Spent audits.Spent is so = refl
 
   goes_once :
-      (block : Kind × Kind) (agree : Agree) (Behind : Same → Type 0) → ((one other : Same) → Behind one → Behind other → one ≡ other)
-      → (one other : Same) → GoesOnWhereSame block agree Behind one → GoesOnWhereSame block agree Behind other → one ≡ other
+      (block : Kind × Kind) (agree : Agree) (Behind : Same → Type 0)
+      → ((one other : Same) → Behind one → Behind other → one ≡ other)
+      → (one other : Same) → GoesOnWhereSame block agree Behind one
+      → GoesOnWhereSame block agree Behind other → one ≡ other
   goes_once block agrees.Same Behind once one other is so = once one other is so
   goes_once block (agrees.Pair a b left right) Behind once one other is so = is ∙ sym so
   goes_once block agrees.Spent Behind once one other is so = is ∙ sym so
@@ -237,7 +251,8 @@ module _ (one_list : OneList) where
       (subst (λ (a : Agree). GoesOnWhereSame block a (AreCompared f g budget blocks) other) same also)
 
   pub compared_once :
-      (f g : Function) (budget : ℕ) (one other : Same) → IsComparedAs f g budget one → IsComparedAs f g budget other → one ≡ other
+      (f g : Function) (budget : ℕ) (one other : Same) → IsComparedAs f g budget one
+      → IsComparedAs f g budget other → one ≡ other
   compared_once f g budget one other (inl (differ, is)) (inl (also, so)) = is ∙ sym so
   compared_once f g budget one other (inl (differ, is)) (inr (heads, so)) = absurd (differ heads)
   compared_once f g budget one other (inr (heads, is)) (inl (differ, so)) = absurd (differ heads)

@@ -1,5 +1,6 @@
 -- What the search of a goal says of all operations.
-use Rattle.std.proofs.Common.{◌≡◌, ℕ, lit<, ℤ, pos, ◌≤ℤ◌, true, Option, Some, None, List, [], MatchOption, refl, sym, subst, arith}
+use Rattle.std.proofs.Common.{◌≡◌, ℕ, lit<, ℤ, pos, ◌≤ℤ◌, true, Option, Some, None, List, [], MatchOption, refl, sym}
+use Rattle.std.proofs.Common.{subst, arith}
 use Rattle.std.specs.Prelude.{is_none}
 use Rattle.std.proofs.lemmas.Int.{ints}
 use Rattle.diff_graph.specs.declared.lit.Lit.{Lit}
@@ -41,7 +42,8 @@ HaveNames = (n : ℕ) (i : ℤ) (made : Who → Op) → (v : ℕ → ℤ) × Nam
 
 abbrev pub ListsTell : Type 0
 ListsTell =
-    (p : Plan Why) (q : Questions Why) → QuestionList p [] q → MatchOption q.failing (HoldsEverywhere p) (λ e. FailsAt p e)
+    (p : Plan Why) (q : Questions Why) → QuestionList p [] q
+    → MatchOption q.failing (HoldsEverywhere p) (λ e. FailsAt p e)
 
 -- any two operations have names
 two_ops : Op → Op → Who → Op
@@ -63,7 +65,8 @@ at_least_0 x m low high = omega (arith, ints)
 
 -- the least values name the operations that are read off them
 pub least_named :
-    NamesStand → (k l : Kind) (w : List Lit) (a b : Op) (ops : AreLeastOps k l w a b) → NamesTwo k l (valuation_of ops.values) a b
+    NamesStand → (k l : Kind) (w : List Lit) (a b : Op) (ops : AreLeastOps k l w a b)
+    → NamesTwo k l (valuation_of ops.values) a b
 least_named stand k l w a b ops =
     let v = valuation_of ops.values in
     let above = ops.least.above in
@@ -91,12 +94,15 @@ ended (Some x) e = absurd (cc)
 
 -- the failing end at which a finding of two operations stands
 end_found :
-    (k l : Kind) (p : Plan Why) (o : Option (FailingEnd Why)) (a b : Op) → MatchOption o (HoldsEverywhere p) (λ e. FailsAt p e)
-    → MatchOption o ⊥ (λ e. AreLeastOps k l e.answers a b) → (e : FailingEnd Why) × FailsAt p e × AreLeastOps k l e.answers a b
+    (k l : Kind) (p : Plan Why) (o : Option (FailingEnd Why)) (a b : Op)
+    → MatchOption o (HoldsEverywhere p) (λ e. FailsAt p e)
+    → MatchOption o ⊥ (λ e. AreLeastOps k l e.answers a b)
+    → (e : FailingEnd Why) × FailsAt p e × AreLeastOps k l e.answers a b
 end_found k l p None a b tells ops = absurd ops
 end_found k l p (Some e) a b tells ops = (e, tells, ops)
 
-module _ (stand : NamesStand) (names : HaveNames) (tell : ListsTell) (f : Function) (k l : Kind) (g : GoalTree) (budget : ℕ) where
+module _ (stand : NamesStand) (names : HaveNames) (tell : ListsTell) (f : Function) (k l : Kind)
+    (g : GoalTree) (budget : ℕ) where
   -- where nothing is found, the plan holds at the names of any operations
   pub found_never :
       IsFoundIn f k l g budget Never → (a b : Op) → kind_of a ≡ Some k → kind_of b ≡ Some l
@@ -112,24 +118,28 @@ module _ (stand : NamesStand) (names : HaveNames) (tell : ListsTell) (f : Functi
       → (v : ℕ → ℤ) × (why : Why) × NamesTwo k l v a b × (end_of (ask_goal f g) v ≡ Some why)
   found_pair a b found =
       let e =
-      end_found k l (ask_goal f g) found.questions.failing a b (tell (ask_goal f g) found.questions found.listed) found.told.1 in
+      end_found k l (ask_goal f g) found.questions.failing a b
+      (tell (ask_goal f g) found.questions found.listed) found.told.1 in
       let v = valuation_of e.2.values in
       (v, e.0.why, least_named stand k l e.0.answers a b e.2, e.1.1 v e.2.least.met)
 
 -- what the goals mean at one valuation
 abbrev pub TargetSought : Type 0
 TargetSought =
-    (f : Function) (k l : Kind) (target : Target) (v : ℕ → ℤ) (a b : Op) (why : Why) → is_declared_pair f.head k l ≡ true
+    (f : Function) (k l : Kind) (target : Target) (v : ℕ → ℤ) (a b : Op) (why : Why)
+    → is_declared_pair f.head k l ≡ true
     → NamesTwo k l v a b → end_of (ask_goal f (target_goal f k l target)) v ≡ Some why → ReachesTarget f k l target a b
 
 abbrev pub TargetFails : Type 0
 TargetFails =
     (f : Function) (k l : Kind) (target : Target) (v : ℕ → ℤ) (a b : Op) → is_declared_pair f.head k l ≡ true
-    → NamesTwo k l v a b → ReachesTarget f k l target a b → end_of (ask_goal f (target_goal f k l target)) v ≡ Some Operations
+    → NamesTwo k l v a b → ReachesTarget f k l target a b
+    → end_of (ask_goal f (target_goal f k l target)) v ≡ Some Operations
 
 abbrev pub DifferenceSought : Type 0
 DifferenceSought =
-    (f g : Function) (k l : Kind) (v : ℕ → ℤ) (a b : Op) (why : Why) → is_declared_pair f.head k l ≡ true → NamesTwo k l v a b
+    (f g : Function) (k l : Kind) (v : ℕ → ℤ) (a b : Op) (why : Why)
+    → is_declared_pair f.head k l ≡ true → NamesTwo k l v a b
     → end_of (ask_goal f (difference_goal f g k l)) v ≡ Some why → Differs f g k l a b
 
 abbrev pub DifferenceHeld : Type 0
@@ -144,9 +154,11 @@ module _ (stand : NamesStand) (names : HaveNames) (tell : ListsTell) where
   -- what is found of a target is so: no operations reach it, or these two do
   pub target_told :
       TargetSought → TargetFails → (f : Function) (k l : Kind) (target : Target) (budget : ℕ) (found : Found)
-      → is_declared_pair f.head k l ≡ true → IsFoundIn f k l (target_goal f k l target) budget found → TellsTarget f k l target found
+      → is_declared_pair f.head k l ≡ true → IsFoundIn f k l (target_goal f k l target) budget found
+      → TellsTarget f k l target found
   target_told sought fails f k l target budget Never declared found = λ a b reaches.
-      let at = found_never stand names tell f k l (target_goal f k l target) budget found a b reaches.0.first reaches.0.second in
+      let at = found_never stand names tell f k l (target_goal f k l target) budget found a b
+      reaches.0.first reaches.0.second in
       not_both (end_of (ask_goal f (target_goal f k l target)) at.0) Operations at.2
       (fails f k l target at.0 a b declared at.1 reaches)
   target_told sought fails f k l target budget (Pair a b) declared found =

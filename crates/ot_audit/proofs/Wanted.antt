@@ -28,7 +28,8 @@ few_enough : (n most : ℕ) → n ≤ most → most ≤ 99999 → n < 2 ^ 32
 few_enough n most h g = omega arith
 
 possible_at_positions :
-    (w : List Lit) → IsPossible w → ((v : ℕ → ℤ) → v 0 ≡ pos 0 → AreMet v w → HasNoNegativePosition w v) → IsPossibleAtPositions w
+    (w : List Lit) → IsPossible w → ((v : ℕ → ℤ) → v 0 ≡ pos 0 → AreMet v w → HasNoNegativePosition w v)
+    → IsPossibleAtPositions w
 possible_at_positions w (v, z, met) positions = (v, z, met, positions v z met)
 
 -- what the laws say of answers that lead to an end
@@ -39,7 +40,8 @@ abbrev pub AnswersAreFew : Type 0
 AnswersAreFew = (why : Why) (p : Plan Why) (w : List Lit) → LeadTo why p w → length w ≤ longest_path p
 
 abbrev pub AnswersAreNamed : Type 0
-AnswersAreNamed = (count : ℕ) (why : Why) (p : Plan Why) (w : List Lit) → IsFine count p → LeadTo why p w → AreNamed count w
+AnswersAreNamed = (count : ℕ) (why : Why) (p : Plan Why) (w : List Lit) → IsFine count p
+    → LeadTo why p w → AreNamed count w
 
 abbrev pub AnswersAreSmall : Type 0
 AnswersAreSmall = (count : ℕ) (why : Why) (p : Plan Why) (w : List Lit) → IsFine count p → LeadTo why p w → AreSmall w
@@ -54,8 +56,8 @@ pub record AreWanted (k l : Kind) (w : List Lit) : Type 0 where
 
 -- the answers that lead to a failing end of a goal that may be searched are what the least values want
 wanted :
-    AnswersAreLike → AnswersAreFew → AnswersAreNamed → AnswersAreSmall → (f : Function) (k l : Kind) (g : GoalTree) (why : Why)
-    (w : List Lit) → IsSearchable f k l g → LeadTo why (ask_goal f g) w → IsPossible w → AreWanted k l w
+    AnswersAreLike → AnswersAreFew → AnswersAreNamed → AnswersAreSmall → (f : Function) (k l : Kind) (g : GoalTree)
+    (why : Why) (w : List Lit) → IsSearchable f k l g → LeadTo why (ask_goal f g) w → IsPossible w → AreWanted k l w
 wanted like few named small f k l g why w searchable lead possible =
     let p = ask_goal f g in
     record {
@@ -68,16 +70,21 @@ wanted like few named small f k l g why w searchable lead possible =
 
 -- the answers of the end at which a search stops are possible
 end_possible :
-    (o : Option (FailingEnd Why)) (e : FailingEnd Why) → o ≡ Some e → MatchOption o (Unit {0}) (λ x. IsPossible x.answers)
+    (o : Option (FailingEnd Why)) (e : FailingEnd Why) → o ≡ Some e
+    → MatchOption o (Unit {0}) (λ x. IsPossible x.answers)
     → IsPossible e.answers
-end_possible o e is possible = subst (λ (x : Option (FailingEnd Why)). MatchOption x (Unit {0}) (λ y. IsPossible y.answers)) is possible
+end_possible o e is possible =
+    subst (λ (x : Option (FailingEnd Why)). MatchOption x (Unit {0}) (λ y. IsPossible y.answers)) is possible
 
 pub stopped_wanted :
-    AnswersAreLike → AnswersAreFew → AnswersAreNamed → AnswersAreSmall → (f : Function) (k l : Kind) (g : GoalTree) (budget : ℕ)
-    (o : Outcome Why) (answers : Vec Answer Global) (why : Why) → IsSearchable f k l g → IsDecided (ask_goal f g) budget o
+    AnswersAreLike → AnswersAreFew → AnswersAreNamed → AnswersAreSmall
+    → (f : Function) (k l : Kind) (g : GoalTree) (budget : ℕ)
+    (o : Outcome Why) (answers : Vec Answer Global) (why : Why) → IsSearchable f k l g
+    → IsDecided (ask_goal f g) budget o
     → o ≡ No answers why → AreWanted k l (answered_by answers.items)
 stopped_wanted like few named small f k l g budget o answers why searchable decided is =
     let told = subst (λ (x : Outcome Why). Decides (ask_goal f g) budget decided.questions x) is decided.decided in
     wanted like few named small f k l g why (answered_by answers.items) searchable
     (literals_lead why (ask_goal f g) answers.items told.2)
-    (end_possible decided.questions.failing (record { answers = answered_by answers.items; why = why }) told.1 decided.possible.1)
+    (end_possible decided.questions.failing (record { answers = answered_by answers.items; why = why })
+    told.1 decided.possible.1)

@@ -5,11 +5,11 @@ use Rattle.ot_model.specs.declared.op.Kind.{Kind}
 use Rattle.ot_model.specs.declared.op.Op.{Op}
 use Rattle.fn_rules.specs.Functions.{Function, cases_of}
 use Rattle.fn_rules.specs.Obligations.{declared_pairs}
-use Rattle.audit_answers.specs.declared.audits.Audit.{Audit}
-use Rattle.audit_answers.specs.declared.audits.Audit.TheVariants as audits
-use Rattle.audit_answers.specs.declared.audits.BlockAudit.{BlockAudit}
-use Rattle.audit_answers.specs.declared.audits.Same.{Same}
-use Rattle.audit_answers.specs.declared.audits.Same.TheVariants as sames
+use Rattle.ot_audit.specs.declared.audits.Audit.{Audit}
+use Rattle.ot_audit.specs.declared.audits.Audit.TheVariants as audits
+use Rattle.ot_audit.specs.declared.audits.BlockAudit.{BlockAudit}
+use Rattle.ot_audit.specs.declared.audits.Same.{Same}
+use Rattle.ot_audit.specs.declared.audits.Same.TheVariants as sames
 use Rattle.ot_audit.specs.declared.found.Agree.{Agree}
 use Rattle.ot_audit.specs.declared.found.Agree.TheVariants as agrees
 use Rattle.ot_audit.specs.declared.found.Found.{Found}

@@ -3,7 +3,7 @@ ghost use Rattle.std.specs.Prelude.{◌≡◌, ◌++◌, List, true, length, IfO
 ghost use Rattle.std.specs.List.{AllByRecursion};
 ghost use Rattle.fn_rules.specs.Functions.{cases_of, is_declared_of, is_declared_pair};
 ghost use Rattle.fn_rules.specs.Rules.{function_of};
-ghost use Rattle.audit_answers.specs.declared.audits.BlockAudit.{BlockAudit as AuditedBlock};
+ghost use Rattle.ot_audit.specs.declared.audits.BlockAudit.{BlockAudit as AuditedBlock};
 ghost use Rattle.ot_audit.specs.declared.auditing.AuditStop.TheVariants as stops;
 ghost use Rattle.ot_audit.specs.Answers.{IsReachedAs};
 ghost use Rattle.ot_audit.specs.Audits.{AreAudits, AreCases, found_of, HasLong, IsAuditedAs, IsBlockAudit, IsLong};
@@ -12,8 +12,8 @@ ghost use Rattle.ot_audit.specs.Goals.{IsTargetOf};
 use crate::found::Found;
 use crate::reaching::reach;
 use crate::target::Target;
+use crate::{Audit, BlockAudit};
 use ask_core::NoMemory;
-use audit_answers::{Audit, BlockAudit};
 use fn_rules::{Rules, blocks, cases_are_valid};
 use ot_model::{Kind, Op};
 use plain_list::List;

@@ -5,10 +5,10 @@ ghost use Rattle.fn_rules.specs.Functions.{is_declared_of};
 ghost use Rattle.fn_rules.specs.Rules.{function_of};
 ghost use Rattle.ot_audit.specs.Audits.{AreCompared, IsComparedAs};
 
+use crate::Same;
 use crate::agreeing::agree;
 use crate::found::Agree;
 use ask_core::NoMemory;
-use audit_answers::Same;
 use fn_rules::{Rules, blocks};
 use ot_model::Kind;
 use std::alloc::Global;

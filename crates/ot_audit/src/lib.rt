@@ -11,6 +11,8 @@
 
 mod agreeing;
 mod auditing;
+mod audits;
+mod back;
 mod comparing;
 mod finding;
 mod found;
@@ -21,8 +23,9 @@ mod target;
 
 pub use agreeing::agree;
 pub use ask_core::NoMemory;
-pub use audit_answers::{Audit, BlockAudit, Same};
 pub use auditing::audit_all;
+pub use audits::{Audit, BlockAudit, Same};
+pub use back::Back;
 pub use comparing::same_all;
 pub use finding::seek;
 pub use found::{Agree, Found, Sought};

@@ -1,8 +1,8 @@
 -- What comes of a feed that gives bytes one after another.
 use Rattle.std.specs.Option.{ForSome}
 use Rattle.std.specs.Io.KnownBytes.{prepend_known, IsAtEnd}
-use Rattle.std.proofs.Common.{◌≡◌, ℕ, ◌+◌, ◌<◌, List, [], ◌∷◌, ◌++◌, length, take, slice_index_or, Option, Some, None, refl, sym, ap, subst, ◌∙◌, arith}
-use Rattle.std.proofs.Common.{append_assoc}
+use Rattle.std.proofs.Common.{◌≡◌, ℕ, ◌+◌, ◌<◌, List, [], ◌∷◌, ◌++◌, length, take, slice_index_or, Option, Some, None}
+use Rattle.std.proofs.Common.{refl, sym, ap, subst, ◌∙◌, arith, append_assoc}
 use Rattle.ot_outside.specs.declared.feed.Feed.{Ghosts}
 use Rattle.ot_sections.specs.Feeding.{Has, IsSpent, MayGive, MayGiveOf, Whole, Yields}
 
@@ -19,7 +19,8 @@ told_first byte rest told None took are known is = absurd (cc)
 told_first byte rest told (Some bytes) took are known is =
     let whole : byte ∷ bytes ≡ known = cc in ap (λ (l : List ℕ). byte ∷ l) (are bytes refl) ∙ whole
 
-untold_first : (byte : ℕ) (told left : Option (List ℕ)) → told ≡ prepend_known (byte ∷ []) left → told ≡ None → left ≡ None
+untold_first : (byte : ℕ) (told left : Option (List ℕ)) → told ≡ prepend_known (byte ∷ []) left
+    → told ≡ None → left ≡ None
 untold_first byte told None took is = refl
 untold_first byte told (Some bytes) took is = absurd (cc)
 
@@ -38,8 +39,10 @@ pub record GivesByte {F : Type 0} (feeds : Ghosts F) (old new : F) (bytes : List
 module _ {F : Type 0} (feeds : Ghosts F) where
   -- before the byte it might give it, and then what it may give behind it
   pub given_first :
-      (old asked new : F) (piece : List ℕ) → 0 < length piece → IsAsked feeds old asked → GivesByte feeds asked new (take 1 piece)
-      → (all : Whole) (rest : List ℕ) → Yields feeds new all rest → Yields feeds old all (slice_index_or piece 0 0 ∷ rest)
+      (old asked new : F) (piece : List ℕ) → 0 < length piece → IsAsked feeds old asked
+      → GivesByte feeds asked new (take 1 piece)
+      → (all : Whole) (rest : List ℕ) → Yields feeds new all rest
+      → Yields feeds old all (slice_index_or piece 0 0 ∷ rest)
   unfolding MayGiveOf MayGive
   given_first old asked new piece some same gives all rest may =
       let byte = slice_index_or piece 0 0 in
@@ -59,12 +62,14 @@ module _ {F : Type 0} (feeds : Ghosts F) where
       )
 
   -- nothing is left where no further byte was there
-  pub spent_there : (old asked : F) → IsAsked feeds old asked → IsAtEnd (feeds.left old) → feeds.hand asked ≡ [] → IsSpent feeds.left feeds.hand asked
+  pub spent_there : (old asked : F) → IsAsked feeds old asked → IsAtEnd (feeds.left old) → feeds.hand asked ≡ []
+      → IsSpent feeds.left feeds.hand asked
   spent_there old asked same over none = record { end = rw same.left over; none = none }
 
   -- and what the feed gave is all
   pub over_there :
-      (old asked : F) → IsAsked feeds old asked → IsSpent feeds.left feeds.hand asked → (all : Whole) → Has feeds asked all
+      (old asked : F) → IsAsked feeds old asked → IsSpent feeds.left feeds.hand asked
+      → (all : Whole) → Has feeds asked all
       → Yields feeds old all []
   unfolding MayGiveOf MayGive
   over_there old asked same spent all have =

@@ -27,7 +27,8 @@ one_is_front (x ∷ xs) (y ∷ ys) r s is =
     let rest : xs ++ r ≡ ys ++ s = cc in
     both x y xs ys first (one_is_front xs ys r s rest)
   where
-    both : (x y : ℕ) (xs ys : List ℕ) → x ≡ y → Extends xs ys ⊎ Extends ys xs → Extends (x ∷ xs) (y ∷ ys) ⊎ Extends (y ∷ ys) (x ∷ xs)
+    both : (x y : ℕ) (xs ys : List ℕ) → x ≡ y → Extends xs ys ⊎ Extends ys xs
+        → Extends (x ∷ xs) (y ∷ ys) ⊎ Extends (y ∷ ys) (x ∷ xs)
     both x y xs ys same (inl (more, is)) = inl (more, cc)
     both x y xs ys same (inr (more, is)) = inr (more, cc)
 
@@ -41,7 +42,8 @@ module _ (line : List ℕ) (byte : ℕ) (front : IsFrontOfHeader line)
       no_front level l bound b line w m few bounded is text some
 
   no_line_over : (w z : List ℕ) → low_header_text level bound ≡ line ++ w → byte ∷ [] ≡ w ++ z → ⊥
-  no_line_over [] z is left = no_line_before [] (sym (append-nil line) ∙ sym is ∙ sym (append-nil (low_header_text level bound)))
+  no_line_over [] z is left =
+      no_line_before [] (sym (append-nil line) ∙ sym is ∙ sym (append-nil (low_header_text level bound)))
   no_line_over (x ∷ w) z is left =
       let first : byte ≡ x = cc in
       other level bound few w (is ∙ ap (λ (y : ℕ). line ++ y ∷ w) (sym first) ∙ sym (append_assoc line (byte ∷ []) w))
@@ -59,7 +61,8 @@ module _ (line : List ℕ) (byte : ℕ) (front : IsFrontOfHeader line)
   no_line_here rest more is = split (one_is_front (line ++ byte ∷ []) (low_header_text level bound) rest more is)
     where
       split :
-          Extends (line ++ byte ∷ []) (low_header_text level bound) ⊎ Extends (low_header_text level bound) (line ++ byte ∷ []) → ⊥
+          Extends (line ++ byte ∷ []) (low_header_text level bound)
+          ⊎ Extends (low_header_text level bound) (line ++ byte ∷ []) → ⊥
       split (inl (w, text)) = other level bound few w text
       split (inr (w, text)) = no_line_there w text
 

@@ -12,7 +12,8 @@ none_left [] few = refl
 none_left (x ∷ xs) few = absurd (omega arith)
 
 -- where no line of the first level begins with the bytes, those of the second decide
-pub by_second_level : (bytes : List ℕ) → FitsLevel Tp1 bytes Other → (fit : HeaderFit) → FitsLevel Tp2 bytes fit → FitsLowHeader bytes fit
+pub by_second_level : (bytes : List ℕ) → FitsLevel Tp1 bytes Other → (fit : HeaderFit) → FitsLevel Tp2 bytes fit
+    → FitsLowHeader bytes fit
 by_second_level bytes none (Whole level bound) fits = fits
 by_second_level bytes none Front fits = fits
 by_second_level bytes none Other fits = at

@@ -1,5 +1,6 @@
 -- A low certificate of a feed, from its first line to its last.
-use Rattle.std.proofs.Common.{◌≡◌, ℕ, true, ◌≤◌, List, [], ◌++◌, length, Option, Some, Result, Ok, Err, IfErr, OnOk, ◌⊎◌, inl, inr, refl, ap, subst, ◌∙◌}
+use Rattle.std.proofs.Common.{◌≡◌, ℕ, true, ◌≤◌, List, [], ◌++◌, length, Option, Some, Result, Ok, Err, IfErr, OnOk}
+use Rattle.std.proofs.Common.{◌⊎◌, inl, inr, refl, ap, subst, ◌∙◌}
 use Rattle.fn_rules.specs.declared.function.Head.{Head}
 use Rattle.fn_rules.specs.declared.function.Level.{Level}
 use Rattle.fn_rules.specs.declared.function.ObName.{ObName}
@@ -15,7 +16,8 @@ use Rattle.refusals.specs.declared.refusal.JudgeError.TheVariants as judge
 use Rattle.ot_sections.specs.Feeding.{Has, MayGive, MayGiveOf, MayHave, Whole, Yields, fed}
 use Rattle.ot_sections.specs.Parts.{IsJudged, IsRefused, Point}
 use Rattle.ot_sections.specs.Stands.{IsJudgedBehind, point_of, stand}
-use Rattle.ot_bound.specs.Judgements.{IsJudgedLow, IsJudgedRest, IsLowJudgement, IsNoHeaderBehind, IsNoJudgement, behind_header}
+use Rattle.ot_bound.specs.Judgements.{IsJudgedLow, IsJudgedRest, IsLowJudgement, IsNoHeaderBehind, IsNoJudgement}
+use Rattle.ot_bound.specs.Judgements.{behind_header}
 use Rattle.ot_bound.specs.Lows.{IsLow, low_header_text, parts_of}
 
 module _ {F : Type 0} (feeds : Ghosts F) (f : Function) (feed new : F) where
@@ -25,26 +27,30 @@ module _ {F : Type 0} (feeds : Ghosts F) (f : Function) (feed new : F) where
       (all : Whole) → Has feeds new all → (bytes : List ℕ) × Yields feeds feed all bytes × IsLowJudgement f bytes answer
 
   -- an answer that is no certificate
-  pub answered : (e : JudgeError) → (IsRefused e → HaveJudgement (Err e)) → IsNoJudgement {T = Level × ℕ} (Err e) ⊎ HaveJudgement (Err e)
+  pub answered : (e : JudgeError) → (IsRefused e → HaveJudgement (Err e))
+      → IsNoJudgement {T = Level × ℕ} (Err e) ⊎ HaveJudgement (Err e)
   answered (judge.Refused offset why) refused = inr (refused tt)
   answered judge.Failed refused = inl (inl refl)
   answered judge.NoMemory refused = inl (inr refl)
 
   pub header_refused : (e : JudgeError) → IsNoHeaderBehind feeds feed new e → IsRefused e → HaveJudgement (Err e)
-  header_refused (judge.Refused offset why) none refused all have = let there = none tt all have in (there.0, there.1, inl there.2)
+  header_refused (judge.Refused offset why) none refused all have = let there = none tt all have in
+      (there.0, there.1, inl there.2)
   header_refused judge.Failed none refused all have = absurd refused
   header_refused judge.NoMemory none refused all have = absurd refused
 
   -- a first line that was read, and what is judged behind it
   module _ (level : Level) (bound : ℕ) (bounded : bound ≤ MAX_BOUND) (first : F)
-      (header : (all : Whole) (rest : List ℕ) → Yields feeds first all rest → Yields feeds feed all (low_header_text level bound ++ rest)) where
+      (header : (all : Whole) (rest : List ℕ) → Yields feeds first all rest
+      → Yields feeds feed all (low_header_text level bound ++ rest)) where
     abbrev AreJudged : Result (Unit {0}) JudgeError → Type 0
     AreJudged end = (all : Whole) → Has feeds new all → IsJudgedRest feeds f level bound first all end
 
     with_header :
         (end : Result (Unit {0}) JudgeError) (all : Whole) → IsJudgedRest feeds f level bound first all end
         → (bytes : List ℕ) × Yields feeds feed all bytes × IsJudgedLow f end bytes level bound
-    with_header end all (rest, may, judged) = (low_header_text level bound ++ rest, header all rest may, (bounded, (rest, refl, judged)))
+    with_header end all (rest, may, judged) =
+        (low_header_text level bound ++ rest, header all rest may, (bounded, (rest, refl, judged)))
 
     -- it is refused
     pub behind_refused :
@@ -70,29 +76,35 @@ module _ {F : Type 0} (feeds : Ghosts F) (f : Function) (feed new : F) where
         (there.0, there.1, law there.0 there.2)
 
 -- the sections behind a first line, as a reader judges them that begins there
-module _ {F : Type 0} (feeds : Ghosts F) (f : Function) (level : Level) (bound : ℕ) (feed new : F) (reader : ReaderState)
+module _ {F : Type 0} (feeds : Ghosts F) (f : Function) (level : Level) (bound : ℕ)
+    (feed new : F) (reader : ReaderState)
     (at : point_of {W = Why} (stand (fed reader feed) []) ≡ behind_header f level bound) where
   abbrev Judged : Result (Unit {0}) JudgeError → Type 0
   Judged end = IsJudgedBehind feeds (plan_below f (Some bound)) (stand (fed reader feed) []) new end
 
-  there : (end : Result (Unit {0}) JudgeError) → Judged end → (all : Whole) → Has feeds new all → IsJudgedRest feeds f level bound feed all end
+  there : (end : Result (Unit {0}) JudgeError) → Judged end → (all : Whole) → Has feeds new all
+      → IsJudgedRest feeds f level bound feed all end
   there end judged all have =
       let (rest, may, is) = judged all have in
       (rest, may, subst (λ (p : Point Why). IsJudged (plan_below f (Some bound)) end p rest) at is)
 
   pub sections_judged :
-      (answer : Result (Unit {0}) JudgeError) → OnOk answer (Judged (Ok tt)) → IfErr answer (λ e. IsRefused e → Judged (Err e))
+      (answer : Result (Unit {0}) JudgeError) → OnOk answer (Judged (Ok tt))
+      → IfErr answer (λ e. IsRefused e → Judged (Err e))
       → IsNoJudgement answer ⊎ ((all : Whole) → Has feeds new all → IsJudgedRest feeds f level bound feed all answer)
   sections_judged (Ok done) fit refused = inr (there (Ok tt) fit)
-  sections_judged (Err (judge.Refused offset why)) fit refused = inr (there (Err (judge.Refused offset why)) (refused tt))
+  sections_judged (Err (judge.Refused offset why)) fit refused =
+      inr (there (Err (judge.Refused offset why)) (refused tt))
   sections_judged (Err judge.Failed) fit refused = inl (inl refl)
   sections_judged (Err judge.NoMemory) fit refused = inl (inr refl)
 
 -- the point of a reader that begins behind the first line
 pub point_is :
-    {F : Type 0} (f : Function) (head : Head) (level : Level) (bound before : ℕ) (names : List ObName) (reader : ReaderState) (feed : F)
+    {F : Type 0} (f : Function) (head : Head) (level : Level) (bound before : ℕ) (names : List ObName)
+    (reader : ReaderState) (feed : F)
     → reader ≡ Reading (Line 0 names) before [] → names ≡ parts_of head level → head ≡ f.head
-    → before ≡ length (low_header_text level bound) → point_of {W = Why} (stand (fed reader feed) []) ≡ behind_header f level bound
+    → before ≡ length (low_header_text level bound)
+    → point_of {W = Why} (stand (fed reader feed) []) ≡ behind_header f level bound
 point_is f head level bound before names reader feed is listed same counted =
     let all : names ≡ parts_of f.head level = listed ∙ ap (λ (h : Head). parts_of h level) same in
     let whole : reader ≡ Reading (Line 0 (parts_of f.head level)) (length (low_header_text level bound)) [] =

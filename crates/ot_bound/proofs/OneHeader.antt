@@ -1,5 +1,6 @@
 -- Bytes begin with at most one first line.
-use Rattle.std.proofs.Common.{◌≡◌, ℕ, ◌<◌, ◌≤◌, ◌^◌, List, [], ◌∷◌, ◌++◌, length, refl, sym, ap, ◌∙◌, arith, append_assoc, length-append}
+use Rattle.std.proofs.Common.{◌≡◌, ℕ, ◌<◌, ◌≤◌, ◌^◌, List, [], ◌∷◌, ◌++◌, length, refl, sym, ap, ◌∙◌, arith}
+use Rattle.std.proofs.Common.{append_assoc, length-append}
 use Rattle.std.proofs.lemmas.List.{append-nil}
 use Rattle.std.proofs.lemmas.Str.Parse.{IsNumeralModel, digit_from_value, numerals_by_value, tells_digits}
 use Rattle.std.proofs.lemmas.Fmt.{decimal_injective, digits_decimal}
@@ -44,12 +45,19 @@ number_once b c r s few fewer is =
 
 -- the bytes begin with this line, and these stand behind it
 pub one_header :
-    (l m : Level) (b c : ℕ) (r s : List ℕ) → b ≤ MAX_BOUND → c ≤ MAX_BOUND → low_header_text l b ++ r ≡ low_header_text m c ++ s
+    (l m : Level) (b c : ℕ) (r s : List ℕ) → b ≤ MAX_BOUND → c ≤ MAX_BOUND
+    → low_header_text l b ++ r ≡ low_header_text m c ++ s
     → (l ≡ m) × ((b ≡ c) × (r ≡ s))
-one_header Tp1 Tp1 b c r s few fewer is =
-    (refl, number_once b c r s few fewer (let behind : (decimal b ++ 10 ∷ []) ++ r ≡ (decimal c ++ 10 ∷ []) ++ s = cc in behind))
-one_header Tp2 Tp2 b c r s few fewer is =
-    (refl, number_once b c r s few fewer (let behind : (decimal b ++ 10 ∷ []) ++ r ≡ (decimal c ++ 10 ∷ []) ++ s = cc in behind))
+one_header Tp1 Tp1 b c r s few fewer is = (
+  refl,
+  number_once b c r s few fewer
+      (let behind : (decimal b ++ 10 ∷ []) ++ r ≡ (decimal c ++ 10 ∷ []) ++ s = cc in behind),
+)
+one_header Tp2 Tp2 b c r s few fewer is = (
+  refl,
+  number_once b c r s few fewer
+      (let behind : (decimal b ++ 10 ∷ []) ++ r ≡ (decimal c ++ 10 ∷ []) ++ s = cc in behind),
+)
 one_header Tp1 Tp2 b c r s few fewer is = absurd (let digit : ◌≡◌ {A = ℕ} 49 50 = cc in omega (arith, digit))
 one_header Tp2 Tp1 b c r s few fewer is = absurd (let digit : ◌≡◌ {A = ℕ} 50 49 = cc in omega (arith, digit))
 

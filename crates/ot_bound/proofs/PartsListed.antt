@@ -8,7 +8,8 @@ use Rattle.fn_rules.specs.declared.function.Level.{Level}
 use Rattle.fn_rules.specs.declared.function.Level.TheVariants.{Tp1, Tp2}
 use Rattle.fn_rules.specs.declared.function.ObName.{ObName}
 use Rattle.fn_rules.specs.declared.function.ObName.TheVariants.{Pair, Triple}
-use Rattle.fn_rules.specs.Obligations.{level_of, declared_kinds, is_obligation, obligations_of, pairs_of, triples_of, with_third, with_thirds}
+use Rattle.fn_rules.specs.Obligations.{level_of, declared_kinds, is_obligation, obligations_of, pairs_of, triples_of}
+use Rattle.fn_rules.specs.Obligations.{with_third, with_thirds}
 use Rattle.ot_bound.specs.Lows.{parts_of}
 
 -- what is so of all is so of those behind others
@@ -34,7 +35,8 @@ parts_few law head Tp2 =
 abbrev AreOf : Level → List ObName → Type 0
 AreOf level obs = AllByRecursion (λ ob. level_of ob ≡ level) obs
 
-pairs_before : (k : Kind) (kinds : List Kind) (obs : List ObName) → AreOf Tp1 obs → AreOf Tp1 (map (Pair k) kinds ++ obs)
+pairs_before : (k : Kind) (kinds : List Kind) (obs : List ObName) → AreOf Tp1 obs
+    → AreOf Tp1 (map (Pair k) kinds ++ obs)
 pairs_before k [] obs are = are
 pairs_before k (l ∷ kinds) obs are = (refl, pairs_before k kinds obs are)
 

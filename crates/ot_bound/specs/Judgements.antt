@@ -51,7 +51,8 @@ pub record IsHeaderRead {F : Type 0} (feeds : Ghosts F) (old new : F) (level : L
   pub bounded : bound ≤ MAX_BOUND
   pub counted : before ≡ length (low_header_text level bound)
   pub bytes :
-      (all : Whole) (rest : List ℕ) → Yields feeds new all rest → Yields feeds old all (low_header_text level bound ++ rest)
+      (all : Whole) (rest : List ℕ) → Yields feeds new all rest
+      → Yields feeds old all (low_header_text level bound ++ rest)
   pub fewer : feeds.bound new + before ≤ feeds.bound old
 
 -- behind the first line
@@ -60,9 +61,11 @@ behind_header f level bound =
     record { place = Line 0 (parts_of f.head level); offset = length (low_header_text level bound); branches = [] }
 
 -- some bytes that a feed might give behind that line are judged so
-abbrev pub IsJudgedRest : {F : Type 0} → Ghosts F → Function → Level → ℕ → F → Whole → Result (Unit {0}) JudgeError → Type 0
+abbrev pub IsJudgedRest : {F : Type 0} → Ghosts F → Function → Level → ℕ → F → Whole
+    → Result (Unit {0}) JudgeError → Type 0
 IsJudgedRest feeds f level bound feed all end =
-    (rest : List ℕ) × Yields feeds feed all rest × IsJudged (plan_below f (Some bound)) end (behind_header f level bound) rest
+    (rest : List ℕ) × Yields feeds feed all rest
+    × IsJudged (plan_below f (Some bound)) end (behind_header f level bound) rest
 
 -- the bytes begin with the first line of a level and a bound, and what stands behind it is judged so
 abbrev pub IsJudgedLow : Function → Result (Unit {0}) JudgeError → List ℕ → Level → ℕ → Type 0

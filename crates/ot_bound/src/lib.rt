@@ -1,11 +1,8 @@
 //! Low certificates: whether bytes show that no document of fewer cells than a bound breaks a function, and where and
-//! why not.
+//! why not (docs/LEAST.md). Nothing here searches; what writes them stands above, on the same definitions.
 //!
-//! A low certificate has, behind its first line with a level and a bound, a tree for each obligation of the level's
-//! property on the documents of fewer cells than the bound: it shows that the property holds on all of them.
-//!
-//! Who judges takes nothing from who searches: nothing here searches or builds a table of constraints. The search that
-//! writes such certificates stands above, on the same definitions.
+//! A low certificate has, after its first line with a level and a bound, a tree for each obligation of the level's
+//! property on the documents of fewer cells: it shows that the property holds on all of them.
 #![tactic(auto)]
 
 mod bound;

@@ -4,8 +4,8 @@ use Rattle.std.proofs.lemmas.Bool.{cases_Bool, cases_eq, false≢true, both_ways
 use Rattle.ot_causal.specs.Members.{has, without}
 use Rattle.ot_causal.specs.Past.{Past, IsNext, IsClosed, AreMade, IsOrderly, IsFree}
 use Rattle.ot_causal.specs.Forms.{newest_open}
-use Rattle.ot_causal.proofs.Members.{IsDistinct, has-itself, has-older, has-cases, without-newest, without-older, has-without, has-without_none}
-use Rattle.ot_causal.proofs.Members.{has-from_without, has-without_itself}
+use Rattle.ot_causal.proofs.Members.{IsDistinct, has-itself, has-older, has-cases, without-newest, without-older}
+use Rattle.ot_causal.proofs.Members.{has-without, has-without_none, has-from_without, has-without_itself}
 
 module _ (past : Past) where
   pub IsDistinct-closed : (l : List ℕ) → IsClosed past l → IsDistinct l
@@ -47,7 +47,8 @@ module _ (past : Past) where
   }
 
   -- all of the list is before the operation
-  pub before-none_open : (o : ℕ) (l : List ℕ) (z : ℕ) → newest_open past o l ≡ None → has l z ≡ true → past.before z o ≡ true
+  pub before-none_open : (o : ℕ) (l : List ℕ) (z : ℕ) → newest_open past o l ≡ None
+      → has l z ≡ true → past.before z o ≡ true
   before-none_open o [] z none is = absurd (false≢true is)
   before-none_open o (y ∷ l) z none is = elim (cases_Bool (past.before y o)) [
     | inl before ↦ elim (has-cases y l z is) [
@@ -57,7 +58,8 @@ module _ (past : Past) where
     | inr apart ↦ (let found : Some y ≡ None = rw apart at none in cc)
   ]
 
-  pub newest_open-none : (o : ℕ) (l : List ℕ) → ((z : ℕ) → has l z ≡ true → past.before z o ≡ true) → newest_open past o l ≡ None
+  pub newest_open-none : (o : ℕ) (l : List ℕ) → ((z : ℕ) → has l z ≡ true → past.before z o ≡ true)
+      → newest_open past o l ≡ None
   newest_open-none o [] all = refl
   newest_open-none o (y ∷ l) all =
       rw (all y (has-itself y l)) (newest_open-none o l (λ z member. all z (has-older y l z member)))
@@ -82,7 +84,8 @@ module _ (past : Past) where
   ]
 
   -- without a member that is not before it, the list is still ready for the operation
-  pub IsNext-without : (x : ℕ) (l : List ℕ) (o : ℕ) → IsNext past l o → past.before x o ≡ false → IsNext past (without x l) o
+  pub IsNext-without : (x : ℕ) (l : List ℕ) (o : ℕ) → IsNext past l o → past.before x o ≡ false
+      → IsNext past (without x l) o
   IsNext-without x l o next apart = record {
     made = next.made;
     new = has-without_none x l o next.new;
@@ -105,7 +108,8 @@ module _ (past : Past) where
 module _ (past : Past) (order : IsOrderly past) where
   -- the newest open member is before no member: it is before none that is before the operation, and all that
   -- are newer are so
-  pub IsFree-newest_open : (o : ℕ) (l : List ℕ) (x : ℕ) → o < past.count → IsClosed past l → newest_open past o l ≡ Some x → IsFree past x l
+  pub IsFree-newest_open : (o : ℕ) (l : List ℕ) (x : ℕ) → o < past.count → IsClosed past l
+      → newest_open past o l ≡ Some x → IsFree past x l
   IsFree-newest_open o [] x made closed found = cc
   IsFree-newest_open o (y ∷ l) x made closed found = record {
     at = λ z member. elim (cases_Bool (past.before x z)) [

@@ -27,9 +27,11 @@ HasOneCourse-both f both no_chars past first sound = record {
     longer l = omega arith
 
 -- a session whose past has one course
-pub Converges-one_course : (f : Function) (session : SessionData) → HasOneCourse f session.past session.first → IsSound f session → Converges f session
+pub Converges-one_course : (f : Function) (session : SessionData) → HasOneCourse f session.past session.first
+    → IsSound f session → Converges f session
 Converges-one_course f session course sound = record {
-  never_stuck = λ s o site next. course.forms o (session.seen s) (session.document s) (next, sound.closed s site) (sound.documents s site);
+  never_stuck = λ s o site next. course.forms o (session.seen s) (session.document s) (next, sound.closed s site)
+      (sound.documents s site);
   one_document = λ s u site_t site_u same.
       let one : Some (session.document s) ≡ Some (session.document u) =
       sym (sound.documents s site_t)

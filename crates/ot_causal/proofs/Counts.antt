@@ -1,8 +1,10 @@
 -- How many members of lists pass a test, and that closed lists are told apart by how many members each site made.
-use Rattle.std.proofs.Common.{◌≡◌, ◌≢◌, ℕ, zero, suc, ◌+◌, ◌<◌, ◌≤◌, Bool, true, false, List, [], ◌∷◌, length, refl, sym, ap, ◌∙◌, subst, inl, inr, arith}
+use Rattle.std.proofs.Common.{◌≡◌, ◌≢◌, ℕ, zero, suc, ◌+◌, ◌<◌, ◌≤◌, Bool, true, false, List, [], ◌∷◌, length, refl}
+use Rattle.std.proofs.Common.{sym, ap, ◌∙◌, subst, inl, inr, arith}
 use Rattle.std.specs.Prelude.{nat_eq}
 use Rattle.std.specs.List.{filter}
-use Rattle.std.proofs.lemmas.Bool.{cases_Bool, cases_eq, both_ways, false≢true, eq-eqb, ne_eqb, eqb-true, true_from_ne_false}
+use Rattle.std.proofs.lemmas.Bool.{cases_Bool, cases_eq, both_ways, false≢true, eq-eqb, ne_eqb, eqb-true}
+use Rattle.std.proofs.lemmas.Bool.{true_from_ne_false}
 use Rattle.std.proofs.lemmas.List.Sums.{length-filter}
 use Rattle.ot_causal.specs.Members.{has, without, HaveOneSet}
 use Rattle.ot_causal.specs.Past.{Past, maker, IsClosed, IsOrderly}
@@ -11,7 +13,8 @@ use Rattle.ot_causal.proofs.Members.{IsDistinct, same_Bool, has-itself, has-olde
 use Rattle.ot_causal.proofs.Closed.{IsDistinct-closed, made-member, has-before}
 
 -- a member that passes is one of those that pass
-filter-without : (p : ℕ → Bool) (x : ℕ) (l : List ℕ) → has l x ≡ true → p x ≡ true → length (filter p l) ≡ suc (length (filter p (without x l)))
+filter-without : (p : ℕ → Bool) (x : ℕ) (l : List ℕ) → has l x ≡ true → p x ≡ true
+    → length (filter p l) ≡ suc (length (filter p (without x l)))
 filter-without p x [] member passes = absurd (false≢true member)
 filter-without p x (y ∷ l) member passes = elim (cases_eq x y) [
   | inl same ↦ (let here : p y ≡ true = subst (λ (z : ℕ). p z ≡ true) same passes in
@@ -25,7 +28,8 @@ filter-without p x (y ∷ l) member passes = elim (cases_eq x y) [
 ]
 
 -- a member that fails is none of those that pass
-filter-without_failing : (p : ℕ → Bool) (x : ℕ) (l : List ℕ) → p x ≡ false → length (filter p (without x l)) ≡ length (filter p l)
+filter-without_failing : (p : ℕ → Bool) (x : ℕ) (l : List ℕ) → p x ≡ false
+    → length (filter p (without x l)) ≡ length (filter p l)
 filter-without_failing p x [] fails = refl
 filter-without_failing p x (y ∷ l) fails = elim (cases_eq x y) [
   | inl same ↦ (let here : p y ≡ false = subst (λ (z : ℕ). p z ≡ false) same fails in
@@ -37,7 +41,8 @@ filter-without_failing p x (y ∷ l) fails = elim (cases_eq x y) [
 ]
 
 -- where each member that passes is in the other list, no more of them pass
-pub filter-among : (p : ℕ → Bool) (m l : List ℕ) → IsDistinct m → ((z : ℕ) → has m z ≡ true → p z ≡ true → has l z ≡ true)
+pub filter-among : (p : ℕ → Bool) (m l : List ℕ) → IsDistinct m
+    → ((z : ℕ) → has m z ≡ true → p z ≡ true → has l z ≡ true)
     → length (filter p m) ≤ length (filter p l)
 filter-among p [] l once among = omega arith
 filter-among p (y ∷ m) l once among = elim (cases_Bool (p y)) [
@@ -49,7 +54,8 @@ filter-among p (y ∷ m) l once among = elim (cases_Bool (p y)) [
 ]
 
 -- and fewer, where one that passes is in the other list alone
-pub filter-lacking : (p : ℕ → Bool) (m l : List ℕ) (x : ℕ) → IsDistinct m → ((z : ℕ) → has m z ≡ true → p z ≡ true → has l z ≡ true)
+pub filter-lacking : (p : ℕ → Bool) (m l : List ℕ) (x : ℕ) → IsDistinct m
+    → ((z : ℕ) → has m z ≡ true → p z ≡ true → has l z ≡ true)
     → has l x ≡ true → p x ≡ true → has m x ≡ false → length (filter p m) < length (filter p l)
 filter-lacking p m l x once among member passes lacks =
     let rest : length (filter p m) ≤ length (filter p (without x l)) =
@@ -122,7 +128,8 @@ module _ (past : Past) where
         → from_site past (maker past x) l ≡ from_site past (maker past x) m → has l x ≡ true → has m x ≡ true
     has-as_many l m x closed_l closed_m as_many member = true_from_ne_false (has m x) (λ lacks. absurd (omega (
       arith,
-      filter-lacking (is_from (maker past x)) m l x (IsDistinct-closed past m closed_m) (among lacks) member (eq-eqb (maker past x) (maker past x) refl) lacks,
+      filter-lacking (is_from (maker past x)) m l x (IsDistinct-closed past m closed_m) (among lacks) member
+          (eq-eqb (maker past x) (maker past x) refl) lacks,
       as_many,
       from_site-filter (maker past x) l,
       from_site-filter (maker past x) m,
@@ -138,11 +145,13 @@ module _ (past : Past) where
 
     -- closed lists with as many operations of each site have one set
     pub HaveOneSet-as_many : (l m : List ℕ) → IsClosed past l → IsClosed past m
-        → ((o : ℕ) → o < past.count → from_site past (maker past o) l ≡ from_site past (maker past o) m) → HaveOneSet l m
+        → ((o : ℕ) → o < past.count → from_site past (maker past o) l ≡ from_site past (maker past o) m)
+        → HaveOneSet l m
     HaveOneSet-as_many l m closed_l closed_m as_many = record {
       at = λ x. same_Bool (has l x) (has m x)
           (λ member. has-as_many l m x closed_l closed_m (as_many x (made-member past l x closed_l member)) member)
-          (λ member. has-as_many m l x closed_m closed_l (sym (as_many x (made-member past m x closed_m member))) member);
+          (λ member. has-as_many m l x closed_m closed_l
+          (sym (as_many x (made-member past m x closed_m member))) member);
     }
 
 -- taking a member out leaves one operation less of its site, and as many of each other one
@@ -156,12 +165,15 @@ module _ (past : Past) where
     from_site-filter past s (without x l),
   )
 
-  pub from_site-without_other : (s x : ℕ) (l : List ℕ) → maker past x ≢ s → from_site past s (without x l) ≡ from_site past s l
+  pub from_site-without_other : (s x : ℕ) (l : List ℕ) → maker past x ≢ s
+      → from_site past s (without x l) ≡ from_site past s l
   from_site-without_other s x l other =
-      from_site-filter past s (without x l) ∙ filter-without_failing (is_from past s) x l (ne_eqb (maker past x) s other) ∙ sym (from_site-filter past s l)
+      from_site-filter past s (without x l) ∙ filter-without_failing (is_from past s) x l
+      (ne_eqb (maker past x) s other) ∙ sym (from_site-filter past s l)
 
   -- closed lists of one set have as many operations of each site
-  pub from_site-one_set : (s : ℕ) (l m : List ℕ) → IsClosed past l → IsClosed past m → HaveOneSet l m → from_site past s l ≡ from_site past s m
+  pub from_site-one_set : (s : ℕ) (l m : List ℕ) → IsClosed past l → IsClosed past m → HaveOneSet l m
+      → from_site past s l ≡ from_site past s m
   from_site-one_set s l m closed_l closed_m same =
       let no_more : length (filter (is_from past s) l) ≤ length (filter (is_from past s) m) =
       filter-among (is_from past s) l m (IsDistinct-closed past l closed_l) (λ z member _. sym (same.at z) ∙ member) in

@@ -101,7 +101,8 @@ most_counted = refl
 -- integrated ones it is n (2k - 1) forms: each of the k moves behind n, and each of the n behind k - 1
 abbrev two_and_two : Past
 two_and_two =
-    past_of (Ins (pos 0) 97 1 ∷ Ins (pos 0) 97 1 ∷ Ins (pos 0) 98 2 ∷ Ins (pos 0) 98 2 ∷ []) ([] ∷ (0 ∷ []) ∷ [] ∷ (2 ∷ []) ∷ [])
+    past_of (Ins (pos 0) 97 1 ∷ Ins (pos 0) 97 1 ∷ Ins (pos 0) 98 2 ∷ Ins (pos 0) 98 2 ∷ [])
+    ([] ∷ (0 ∷ []) ∷ [] ∷ (2 ∷ []) ∷ [])
 
 first_of_two_counts : length (counted two_and_two (2 ∷ 1 ∷ 0 ∷ [])) ≡ 2
 unfolding counted sought sought_within
@@ -143,7 +144,8 @@ each_is_born (suc (suc (suc o))) below = absurd (omega (arith, below))
 such_a_past_is_sound : IsSoundPast sites all_concurrent (y ∷ [])
 such_a_past_is_sound = record {
   born = each_is_born;
-  ordered = λ x o below_x below_o one_site differ. absurd (differ (omega (arith, maker_is x below_x, maker_is o below_o, one_site)));
+  ordered = λ x o below_x below_o one_site differ.
+      absurd (differ (omega (arith, maker_is x below_x, maker_is o below_o, one_site)));
 }
 
 -- its lists are closed in any order

@@ -10,15 +10,19 @@ use Rattle.ot_causal.specs.Counting.{name_of, sought_within, sought, counted, co
 use Rattle.ot_causal.proofs.Members.{without-newest, length-without}
 use Rattle.ot_causal.proofs.Closed.{has-newest_open}
 
-pub option_map_or-none : {T U : Type 0} (h : T → U) (found : Option T) (other : U) → found ≡ None → option_map_or h found other ≡ other
+pub option_map_or-none : {T U : Type 0} (h : T → U) (found : Option T) (other : U) → found ≡ None
+    → option_map_or h found other ≡ other
 option_map_or-none h found other is = rw is refl
 
-pub option_map_or-some : {T U : Type 0} (h : T → U) (found : Option T) (x : T) (other : U) → found ≡ Some x → option_map_or h found other ≡ h x
+pub option_map_or-some : {T U : Type 0} (h : T → U) (found : Option T) (x : T) (other : U) → found ≡ Some x
+    → option_map_or h found other ≡ h x
 option_map_or-some h found x other is = rw is refl
 
 -- without its newest open member the list is as long as its older members
-length-without_open : (past : Past) (o y : ℕ) (l : List ℕ) (x : ℕ) → newest_open past o (y ∷ l) ≡ Some x → length l ≡ length (without x (y ∷ l))
-length-without_open past o y l x found = omega (arith, length-without x (y ∷ l) (has-newest_open past o (y ∷ l) x found))
+length-without_open : (past : Past) (o y : ℕ) (l : List ℕ) (x : ℕ) → newest_open past o (y ∷ l) ≡ Some x
+    → length l ≡ length (without x (y ∷ l))
+length-without_open past o y l x found =
+    omega (arith, length-without x (y ∷ l) (has-newest_open past o (y ∷ l) x found))
 
 module _ (f : Function) (past : Past) where
   -- where all of the list is before it, the operation is its own form
@@ -34,10 +38,10 @@ module _ (f : Function) (past : Past) where
   form-newest_open o [] x found = cc
   form-newest_open o (y ∷ l) x found =
       option_map_or-some
-      (λ z. transformed f (form_within (length l) f past o (without z (y ∷ l))) (form_within (length l) f past z (without z (y ∷ l))))
-      (newest_open past o (y ∷ l)) x (Some (past.operation o)) found
-      ∙ ap (λ depth. transformed f (form_within depth f past o (without x (y ∷ l))) (form_within depth f past x (without x (y ∷ l))))
-      (length-without_open past o y l x found)
+      (λ z. transformed f (form_within (length l) f past o (without z (y ∷ l))) (form_within (length l) f past z
+      (without z (y ∷ l)))) (newest_open past o (y ∷ l)) x (Some (past.operation o)) found
+      ∙ ap (λ depth. transformed f (form_within depth f past o (without x (y ∷ l)))
+      (form_within depth f past x (without x (y ∷ l)))) (length-without_open past o y l x found)
 
   -- so it is behind a newest member that is not before it
   pub form-cons : (o x : ℕ) (l : List ℕ) → past.before x o ≡ false
@@ -70,15 +74,16 @@ unfolding sought sought_within
 sought-newest_open past o [] x found = cc
 sought-newest_open past o (y ∷ l) x found =
     option_map_or-some
-    (λ z. sought_within (length l) past o (without z (y ∷ l)) ++ sought_within (length l) past z (without z (y ∷ l)) ++ record { of = o; behind = y ∷ l } ∷ [])
-    (newest_open past o (y ∷ l)) x [] found
-    ∙ ap (λ depth. sought_within depth past o (without x (y ∷ l)) ++ sought_within depth past x (without x (y ∷ l)) ++ record { of = o; behind = y ∷ l } ∷ [])
-    (length-without_open past o y l x found)
+    (λ z. sought_within (length l) past o (without z (y ∷ l)) ++ sought_within (length l) past z (without z (y ∷ l))
+    ++ record { of = o; behind = y ∷ l } ∷ []) (newest_open past o (y ∷ l)) x [] found
+    ∙ ap (λ depth. sought_within depth past o (without x (y ∷ l)) ++ sought_within depth past x (without x (y ∷ l))
+    ++ record { of = o; behind = y ∷ l } ∷ []) (length-without_open past o y l x found)
 
 pub counted-nil : (past : Past) → counted past [] ≡ []
 unfolding counted
 counted-nil past = refl
 
-pub counted-cons : (past : Past) (o : ℕ) (l : List ℕ) → counted past (o ∷ l) ≡ count_sought (counted past l) (sought past o l)
+pub counted-cons : (past : Past) (o : ℕ) (l : List ℕ)
+    → counted past (o ∷ l) ≡ count_sought (counted past l) (sought past o l)
 unfolding counted
 counted-cons past o l = refl

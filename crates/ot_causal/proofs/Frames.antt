@@ -1,6 +1,7 @@
 -- What was made stays as it was when more is made: closed lists, forms, the documents that lists lead to, and
 -- counts.
-use Rattle.std.proofs.Common.{◌≡◌, ℕ, zero, suc, ◌<◌, cond, not, List, [], ◌∷◌, ◌++◌, length, Option, Some, None, refl, sym, ap, ap₂, ◌∙◌, arith}
+use Rattle.std.proofs.Common.{◌≡◌, ℕ, zero, suc, ◌<◌, cond, not, List, [], ◌∷◌, ◌++◌, length, Option, Some, None, refl}
+use Rattle.std.proofs.Common.{sym, ap, ap₂, ◌∙◌, arith}
 use Rattle.std.specs.Option.{option_and_then, option_map_or}
 use Rattle.ot_model.specs.declared.cell.Cell.{Cell}
 use Rattle.fn_rules.specs.Functions.{Function}
@@ -30,13 +31,15 @@ module _ (old new : Past) (extends : Extends old new) where
       ∙ ap (λ rest. cond (not (old.before y o)) (Some y) rest) (newest_open-extended o l made)
 
   -- a value that the newest open member decides
-  by_newest_open : {T : Type 0} (at_new at_old : ℕ → T) (none_new none_old : T) (o : ℕ) (l : List ℕ) → o < old.count → AreMade old l
+  by_newest_open : {T : Type 0} (at_new at_old : ℕ → T) (none_new none_old : T) (o : ℕ) (l : List ℕ)
+      → o < old.count → AreMade old l
       → ((x : ℕ) → x < old.count → at_new x ≡ at_old x) → none_new ≡ none_old
       → option_map_or at_new (newest_open new o l) none_new ≡ option_map_or at_old (newest_open old o l) none_old
   by_newest_open {T} at_new at_old none_new none_old o l made all same none_same =
       ap (λ found. option_map_or at_new found none_new) (newest_open-extended o l made) ∙ by (newest_open old o l) refl
     where
-      by : (found : Option ℕ) → newest_open old o l ≡ found → option_map_or at_new found none_new ≡ option_map_or at_old found none_old
+      by : (found : Option ℕ) → newest_open old o l ≡ found
+          → option_map_or at_new found none_new ≡ option_map_or at_old found none_old
       by None is = none_same
       by (Some x) is = same x (all.at x (has-newest_open old o l x is))
 
@@ -54,11 +57,13 @@ module _ (old new : Past) (extends : Extends old new) where
       (form_within-extended f depth x (without x l) made_x (AreMade-without old x l all)))
       (ap Some (extends.operations o made))
 
-  pub form-extended : (f : Function) (o : ℕ) (l : List ℕ) → o < old.count → AreMade old l → form f new o l ≡ form f old o l
+  pub form-extended : (f : Function) (o : ℕ) (l : List ℕ) → o < old.count → AreMade old l
+      → form f new o l ≡ form f old o l
   unfolding form
   form-extended f o l made all = form_within-extended f (length l) o l made all
 
-  pub state-extended : (f : Function) (first : List Cell) (l : List ℕ) → AreMade old l → state f new first l ≡ state f old first l
+  pub state-extended : (f : Function) (first : List Cell) (l : List ℕ) → AreMade old l
+      → state f new first l ≡ state f old first l
   unfolding state
   state-extended f first [] all = refl
   state-extended f first (o ∷ l) all =

@@ -1,6 +1,7 @@
 -- Where a function has both properties: forms exist and are enabled on the documents of their lists, and forms
 -- and documents depend on a list only by its set. All four go together, by induction on the length of the list.
-use Rattle.std.proofs.Common.{◌≡◌, ◌≢◌, ℕ, zero, suc, ◌<◌, false, List, [], ◌∷◌, length, Option, Some, None, refl, sym, ap, ap₂, ◌∙◌, subst, inl, inr, arith}
+use Rattle.std.proofs.Common.{◌≡◌, ◌≢◌, ℕ, zero, suc, ◌<◌, false, List, [], ◌∷◌, length, Option, Some, None, refl, sym}
+use Rattle.std.proofs.Common.{ap, ap₂, ◌∙◌, subst, inl, inr, arith}
 use Rattle.std.proofs.lemmas.Bool.{cases_eq, false≢true}
 use Rattle.ot_model.specs.declared.cell.Cell.{Cell}
 use Rattle.ot_model.specs.Effect.{IsEnabled}
@@ -13,20 +14,22 @@ use Rattle.ot_causal.specs.Past.{Past, IsNext, IsClosed, IsReady, IsOrderly, IsO
 use Rattle.ot_causal.specs.Forms.{newest_open, transformed, form, state}
 use Rattle.ot_causal.specs.Sessions.{IsBorn, IsSoundPast}
 use Rattle.ot_causal.specs.Convergence.{HasState}
-use Rattle.ot_causal.proofs.Members.{same_Bool, has-itself, without-newest, HaveOneSet-sym, HaveOneSet-older, HaveOneSet-without, HaveOneSet-taken_out}
+use Rattle.ot_causal.proofs.Members.{same_Bool, has-itself, without-newest, HaveOneSet-sym, HaveOneSet-older}
+use Rattle.ot_causal.proofs.Members.{HaveOneSet-without, HaveOneSet-taken_out}
 use Rattle.ot_causal.proofs.Closed.{IsDistinct-closed, before-none_open, newest_open-none, IsNext-without}
 use Rattle.ot_causal.proofs.Forms.{form-none_open, form-newest_open, state-nil}
 use Rattle.ot_causal.proofs.Born.{IsOrderly-sound, IsAllowed-apart}
 use Rattle.ot_causal.proofs.Openings.{IsDiamond, IsNext-newer, IsOpening-newest_open, IsFree-newest, IsDiamond-free}
-use Rattle.ot_causal.proofs.Pairs.{HasFormOn, after, state-executed, state-same_older, ConvergesAt-there, CommutesAt-there, HasFormOn-behind, state-flip}
-use Rattle.ot_causal.proofs.Pairs.{form-behind_two}
+use Rattle.ot_causal.proofs.Pairs.{HasFormOn, after, state-executed, state-same_older, ConvergesAt-there}
+use Rattle.ot_causal.proofs.Pairs.{CommutesAt-there, HasFormOn-behind, state-flip, form-behind_two}
 
 -- what is shown of the lists that are shorter than a number
 pub record Below (f : Function) (past : Past) (first : List Cell) (n : ℕ) : Type 0 where
   pub states : (l : List ℕ) → length l < n → IsClosed past l → HasState f past first l
   pub same_states : (l m : List ℕ) → length l < n → IsClosed past l → IsClosed past m → HaveOneSet l m
       → state f past first l ≡ state f past first m
-  pub forms : (o : ℕ) (l : List ℕ) (d : List Cell) → length l < n → IsReady past o l → state f past first l ≡ Some d → HasFormOn f past d o l
+  pub forms : (o : ℕ) (l : List ℕ) (d : List Cell) → length l < n → IsReady past o l
+      → state f past first l ≡ Some d → HasFormOn f past d o l
   pub same_forms : (o : ℕ) (l m : List ℕ) → length l < n → IsReady past o l → IsReady past o m → HaveOneSet l m
       → form f past o l ≡ form f past o m
 
@@ -36,7 +39,8 @@ module _ (f : Function) (both : CarriesForms f) (no_chars : f.head.chars_differ 
   order = IsOrderly-sound f past first sound
 
   -- operations that are next behind one list, of which none is before the other, may be with each other
-  IsAllowed-next : (x y : ℕ) (l : List ℕ) → IsNext past l x → IsNext past l y → x ≢ y → past.before x y ≡ false → past.before y x ≡ false
+  IsAllowed-next : (x y : ℕ) (l : List ℕ) → IsNext past l x → IsNext past l y → x ≢ y → past.before x y ≡ false
+      → past.before y x ≡ false
       → IsAllowed f (past.operation x) (past.operation y)
   IsAllowed-next x y l next_x next_y = IsAllowed-apart f past first sound no_chars x y next_x.made next_y.made
 
@@ -61,14 +65,16 @@ module _ (f : Function) (both : CarriesForms f) (no_chars : f.head.chars_differ 
   states_diamond x y l m out differ diamond short closed_l closed_m =
       state-same_older f both past first x (without x l) (y ∷ out)
       (below.same_states (without x l) (y ∷ out) short closed_l.1 (diamond.next_y, diamond.closed) diamond.left)
-      (below.same_forms x (without x l) (y ∷ out) short closed_l (x_behind_y, (diamond.next_y, diamond.closed)) diamond.left)
+      (below.same_forms x (without x l) (y ∷ out) short closed_l
+      (x_behind_y, (diamond.next_y, diamond.closed)) diamond.left)
       ∙ state-flip f both past first x y out there.document there.is as_x as_y
       (ConvergesAt-there f both past there.document x y out as_x as_y
       (IsAllowed-next x y out diamond.next_x diamond.next_y differ diamond.apart diamond.apart_back))
       diamond.apart diamond.apart_back
       ∙ state-same_older f both past first y (x ∷ out) (without y m)
       (below.same_states (x ∷ out) (without y m) also_short (diamond.next_x, diamond.closed) closed_m.1 diamond.right)
-      (below.same_forms y (x ∷ out) (without y m) also_short (y_behind_x, (diamond.next_x, diamond.closed)) closed_m diamond.right)
+      (below.same_forms y (x ∷ out) (without y m) also_short
+      (y_behind_x, (diamond.next_x, diamond.closed)) closed_m diamond.right)
     where
       also_short : suc (length out) < n
       also_short = omega (arith, short, diamond.shorter)
@@ -113,7 +119,8 @@ module _ (f : Function) (both : CarriesForms f) (no_chars : f.head.chars_differ 
   ]
 
   -- the form exists and is enabled on the document of the list
-  forms_next : (o : ℕ) (l : List ℕ) (d : List Cell) → length l < suc n → IsReady past o l → state f past first l ≡ Some d
+  forms_next : (o : ℕ) (l : List ℕ) (d : List Cell) → length l < suc n → IsReady past o l
+      → state f past first l ≡ Some d
       → HasFormOn f past d o l
   forms_next o l d short ready leads = by (newest_open past o l) refl
     where
@@ -124,7 +131,8 @@ module _ (f : Function) (both : CarriesForms f) (no_chars : f.head.chars_differ 
         is = form-none_open f past o l none;
         integrable = record {
           declared = both.keeps.made (past.operation o) born.declared;
-          enabled = subst (λ (document : List Cell). IsEnabled (past.operation o) (length document)) same_document born.enabled;
+          enabled = subst (λ (document : List Cell). IsEnabled (past.operation o) (length document))
+              same_document born.enabled;
         };
         allowed = λ other allowed. allowed;
       }
@@ -136,7 +144,8 @@ module _ (f : Function) (both : CarriesForms f) (no_chars : f.head.chars_differ 
           same_document =
               let one_set : HaveOneSet l born.known = record {
                 at = λ z.
-                    same_Bool (has l z) (past.before z o) (before-none_open past o l z none) (ready.0.knows z) ∙ sym (born.befores z);
+                    same_Bool (has l z) (past.before z o) (before-none_open past o l z none) (ready.0.knows z)
+                    ∙ sym (born.befores z);
               } in
               let one : Some born.document ≡ Some d =
               sym born.is ∙ sym (same_states_next l born.known short ready.1 born.closed one_set) ∙ leads in
@@ -145,7 +154,8 @@ module _ (f : Function) (both : CarriesForms f) (no_chars : f.head.chars_differ 
       -- otherwise it is transformed by the newest open member
       moved : (x : ℕ) → newest_open past o l ≡ Some x → HasFormOn f past d o l
       moved x found = subst (λ (document : List Cell). HasFormOn f past document o l) same_document
-          (HasFormOn-behind f both past there.document x o (without x l) l as_x as_o converges (form-newest_open f past o l x found))
+          (HasFormOn-behind f both past there.document x o (without x l) l as_x as_o converges
+          (form-newest_open f past o l x found))
         where
           opening : IsOpening past o l x
           opening = IsOpening-newest_open past order o l x ready found
@@ -164,7 +174,8 @@ module _ (f : Function) (both : CarriesForms f) (no_chars : f.head.chars_differ 
 
           converges : ConvergesAt f there.document as_x.there as_o.there
           converges = ConvergesAt-there f both past there.document x o (without x l) as_x as_o
-              (IsAllowed-next x o (without x l) opening.next_member opening.next opening.differ opening.apart opening.apart_back)
+              (IsAllowed-next x o (without x l) opening.next_member opening.next opening.differ
+              opening.apart opening.apart_back)
 
           same_document : after f as_x.there there.document ≡ d
           same_document =
@@ -187,14 +198,18 @@ module _ (f : Function) (both : CarriesForms f) (no_chars : f.head.chars_differ 
       ≡ transformed f (form f past o (without y m)) (form f past y (without y m))
   forms_diamond o x y l m out differ diamond short at_x at_y next_o =
       ap₂ (transformed f)
-      (below.same_forms o (without x l) (y ∷ out) short (at_x.next, at_x.closed) (o_behind y at_y.differ, (diamond.next_y, diamond.closed)) diamond.left)
-      (below.same_forms x (without x l) (y ∷ out) short (at_x.next_member, at_x.closed) (x_behind_y, (diamond.next_y, diamond.closed)) diamond.left)
+      (below.same_forms o (without x l) (y ∷ out) short (at_x.next, at_x.closed)
+      (o_behind y at_y.differ, (diamond.next_y, diamond.closed)) diamond.left)
+      (below.same_forms x (without x l) (y ∷ out) short (at_x.next_member, at_x.closed)
+      (x_behind_y, (diamond.next_y, diamond.closed)) diamond.left)
       ∙ form-behind_two f both past y x o out there.document as_y as_x as_o
       (commutes_exchanged f as_x.there as_y.there as_o.there commutes) diamond.apart_back at_y.apart
       ∙ sym (form-behind_two f both past x y o out there.document as_x as_y as_o commutes diamond.apart at_x.apart)
       ∙ ap₂ (transformed f)
-      (below.same_forms o (x ∷ out) (without y m) also_short (o_behind x at_x.differ, (diamond.next_x, diamond.closed)) (at_y.next, at_y.closed) diamond.right)
-      (below.same_forms y (x ∷ out) (without y m) also_short (y_behind_x, (diamond.next_x, diamond.closed)) (at_y.next_member, at_y.closed) diamond.right)
+      (below.same_forms o (x ∷ out) (without y m) also_short (o_behind x at_x.differ, (diamond.next_x, diamond.closed))
+      (at_y.next, at_y.closed) diamond.right)
+      (below.same_forms y (x ∷ out) (without y m) also_short (y_behind_x, (diamond.next_x, diamond.closed))
+      (at_y.next_member, at_y.closed) diamond.right)
     where
       also_short : suc (length out) < n
       also_short = omega (arith, short, diamond.shorter)
@@ -232,8 +247,10 @@ module _ (f : Function) (both : CarriesForms f) (no_chars : f.head.chars_differ 
   same_forms_next o l m short ready_l ready_m same = by (newest_open past o l) (newest_open past o m) refl refl
     where
       -- a member of both that is open in one is open in the other
-      none_there : (one other : List ℕ) → HaveOneSet one other → newest_open past o other ≡ None → newest_open past o one ≡ None
-      none_there one other one_set none = newest_open-none past o one (λ z member. before-none_open past o other z none (sym (one_set.at z) ∙ member))
+      none_there : (one other : List ℕ) → HaveOneSet one other → newest_open past o other ≡ None
+          → newest_open past o one ≡ None
+      none_there one other one_set none =
+          newest_open-none past o one (λ z member. before-none_open past o other z none (sym (one_set.at z) ∙ member))
 
       -- the newest open members of both lists, which are one or two
       at_both : (x y : ℕ) → newest_open past o l ≡ Some x → newest_open past o m ≡ Some y
@@ -241,31 +258,37 @@ module _ (f : Function) (both : CarriesForms f) (no_chars : f.head.chars_differ 
           ≡ transformed f (form f past o (without y m)) (form f past y (without y m))
       at_both x y found_x found_y = elim (cases_eq x y) [
         | inl one ↦ (let at_x : IsOpening past o l x = IsOpening-newest_open past order o l x ready_l found_x in
-            let at_m : IsOpening past o m x = IsOpening-newest_open past order o m x ready_m (found_y ∙ ap Some (sym one)) in
+            let at_m : IsOpening past o m x =
+            IsOpening-newest_open past order o m x ready_m (found_y ∙ ap Some (sym one)) in
             let one_set : HaveOneSet (without x l) (without x m) =
             HaveOneSet-without x l m (IsDistinct-closed past l ready_l.1) (IsDistinct-closed past m ready_m.1) same in
             ap₂ (transformed f)
-            (below.same_forms o (without x l) (without x m) (omega (arith, short, at_x.shorter)) (at_x.next, at_x.closed) (at_m.next, at_m.closed) one_set)
-            (below.same_forms x (without x l) (without x m) (omega (arith, short, at_x.shorter)) (at_x.next_member, at_x.closed) (at_m.next_member, at_m.closed)
-            one_set)
+            (below.same_forms o (without x l) (without x m) (omega (arith, short, at_x.shorter))
+            (at_x.next, at_x.closed) (at_m.next, at_m.closed) one_set)
+            (below.same_forms x (without x l) (without x m) (omega (arith, short, at_x.shorter))
+            (at_x.next_member, at_x.closed) (at_m.next_member, at_m.closed) one_set)
             ∙ ap (λ z. transformed f (form f past o (without z m)) (form f past z (without z m))) one)
         | inr differ ↦ (let at_x : IsOpening past o l x = IsOpening-newest_open past order o l x ready_l found_x in
             let at_y : IsOpening past o m y = IsOpening-newest_open past order o m y ready_m found_y in
             forms_diamond o x y l m (without y (without x l)) differ
-            (IsDiamond-free past order x y l m differ ready_l.1 ready_m.1 same at_x.member at_y.member at_x.free at_y.free)
+            (IsDiamond-free past order x y l m differ ready_l.1 ready_m.1 same at_x.member
+            at_y.member at_x.free at_y.free)
             (omega (arith, short, at_x.shorter)) at_x at_y (IsNext-without past y (without x l) o at_x.next at_y.apart))
       ]
 
-      by : (found other : Option ℕ) → newest_open past o l ≡ found → newest_open past o m ≡ other → form f past o l ≡ form f past o m
+      by : (found other : Option ℕ) → newest_open past o l ≡ found → newest_open past o m ≡ other
+          → form f past o l ≡ form f past o m
       by None other none is =
           form-none_open f past o l none ∙ sym (form-none_open f past o m (none_there m l (HaveOneSet-sym same) none))
       by (Some x) None found none =
           form-none_open f past o l (none_there l m same none) ∙ sym (form-none_open f past o m none)
       by (Some x) (Some y) found_x found_y =
-          form-newest_open f past o l x found_x ∙ at_both x y found_x found_y ∙ sym (form-newest_open f past o m y found_y)
+          form-newest_open f past o l x found_x ∙ at_both x y found_x found_y
+          ∙ sym (form-newest_open f past o m y found_y)
 
   Below-next : Below f past first (suc n)
-  Below-next = record { states = states_next; same_states = same_states_next; forms = forms_next; same_forms = same_forms_next }
+  Below-next =
+      record { states = states_next; same_states = same_states_next; forms = forms_next; same_forms = same_forms_next }
 
 -- all of it, for every length
 pub Below-all : (f : Function) → CarriesForms f → f.head.chars_differ ≡ false

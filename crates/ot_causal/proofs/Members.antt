@@ -1,8 +1,9 @@
 -- Members of lists, and lists without one of their members.
-use Rattle.std.proofs.Common.{◌≡◌, ◌≢◌, ◌⊎◌, ℕ, suc, true, false, ◌||◌, List, [], ◌∷◌, length, refl, sym, ap, ◌∙◌, subst, inl, inr, Bool}
+use Rattle.std.proofs.Common.{◌≡◌, ◌≢◌, ◌⊎◌, ℕ, suc, true, false, ◌||◌, List, [], ◌∷◌, length, refl, sym, ap, ◌∙◌}
+use Rattle.std.proofs.Common.{subst, inl, inr, Bool}
 use Rattle.std.specs.Prelude.{nat_eq}
-use Rattle.std.proofs.lemmas.Bool.{cases_eq, eq-eqb, ne_eqb, eqb-true, or_cases, or_right, or_left, false≢true, both_ways, true_from_ne_false}
-use Rattle.std.proofs.lemmas.Bool.{false_from_ne_true}
+use Rattle.std.proofs.lemmas.Bool.{cases_eq, eq-eqb, ne_eqb, eqb-true, or_cases, or_right, or_left, false≢true}
+use Rattle.std.proofs.lemmas.Bool.{both_ways, true_from_ne_false, false_from_ne_true}
 use Rattle.ot_causal.specs.Members.{has, without, HaveOneSet, IsSublist, none, keep, skip}
 
 -- a truth that follows both ways
@@ -48,7 +49,8 @@ has-without x [] z differ = refl
 has-without x (y ∷ l) z differ = elim (cases_eq x y) [
   | inl same ↦ subst (λ (w : ℕ). has (without x (w ∷ l)) z ≡ has (w ∷ l) z) same
       (ap (λ m. has m z) (without-newest x l) ∙ sym (has-other x l z differ))
-  | inr other ↦ ap (λ m. has m z) (without-older x y l other) ∙ ap (λ rest. nat_eq z y || rest) (has-without x l z differ)
+  | inr other ↦ ap (λ m. has m z) (without-older x y l other)
+      ∙ ap (λ rest. nat_eq z y || rest) (has-without x l z differ)
 ]
 
 -- taking a member out adds none
@@ -56,24 +58,29 @@ pub has-without_none : (x : ℕ) (l : List ℕ) (z : ℕ) → has l z ≡ false 
 has-without_none x [] z is = refl
 has-without_none x (y ∷ l) z is = elim (cases_eq x y) [
   | inl same ↦ rw (eq-eqb x y same) (elim (cases_eq z y) [
-    | inl newest ↦ absurd (both_ways (has (y ∷ l) z) is (subst (λ (w : ℕ). has (y ∷ l) w ≡ true) (sym newest) (has-itself y l)))
+    | inl newest ↦
+        absurd (both_ways (has (y ∷ l) z) is (subst (λ (w : ℕ). has (y ∷ l) w ≡ true) (sym newest) (has-itself y l)))
     | inr older ↦ sym (has-other y l z older) ∙ is
   ])
   | inr other ↦ rw (ne_eqb x y other) (elim (cases_eq z y) [
-    | inl newest ↦ absurd (both_ways (has (y ∷ l) z) is (subst (λ (w : ℕ). has (y ∷ l) w ≡ true) (sym newest) (has-itself y l)))
+    | inl newest ↦
+        absurd (both_ways (has (y ∷ l) z) is (subst (λ (w : ℕ). has (y ∷ l) w ≡ true) (sym newest) (has-itself y l)))
     | inr older ↦ rw (ne_eqb z y older) (has-without_none x l z (sym (has-other y l z older) ∙ is))
   ])
 ]
 
 pub has-from_without : (x : ℕ) (l : List ℕ) (z : ℕ) → has (without x l) z ≡ true → has l z ≡ true
-has-from_without x l z is = true_from_ne_false (has l z) (λ none. both_ways (has (without x l) z) (has-without_none x l z none) is)
+has-from_without x l z is =
+    true_from_ne_false (has l z) (λ none. both_ways (has (without x l) z) (has-without_none x l z none) is)
 
 -- a list whose members stand once has not the member that was taken out
 pub has-without_itself : (x : ℕ) (l : List ℕ) → IsDistinct l → has (without x l) x ≡ false
 has-without_itself x [] distinct = refl
 has-without_itself x (y ∷ l) distinct = elim (cases_eq x y) [
-  | inl same ↦ subst (λ (w : ℕ). has (without w (y ∷ l)) w ≡ false) (sym same) (ap (λ m. has m y) (without-newest y l) ∙ distinct.0)
-  | inr other ↦ ap (λ m. has m x) (without-older x y l other) ∙ has-other y (without x l) x other ∙ has-without_itself x l distinct.1
+  | inl same ↦ subst (λ (w : ℕ). has (without w (y ∷ l)) w ≡ false) (sym same)
+      (ap (λ m. has m y) (without-newest y l) ∙ distinct.0)
+  | inr other ↦ ap (λ m. has m x) (without-older x y l other) ∙ has-other y (without x l) x other
+      ∙ has-without_itself x l distinct.1
 ]
 
 pub length-without : (x : ℕ) (l : List ℕ) → has l x ≡ true → length l ≡ suc (length (without x l))
@@ -110,7 +117,8 @@ HaveOneSet-taken_out x l is = record {
 }
 
 -- lists behind the same newest member
-pub HaveOneSet-older : (x : ℕ) (l m : List ℕ) → has l x ≡ false → has m x ≡ false → HaveOneSet (x ∷ l) (x ∷ m) → HaveOneSet l m
+pub HaveOneSet-older : (x : ℕ) (l m : List ℕ) → has l x ≡ false → has m x ≡ false
+    → HaveOneSet (x ∷ l) (x ∷ m) → HaveOneSet l m
 HaveOneSet-older x l m new_l new_m same = record {
   at = λ z. elim (cases_eq z x) [
     | inl is ↦ subst (λ (w : ℕ). has l w ≡ has m w) (sym is) (new_l ∙ sym new_m)

@@ -5,10 +5,10 @@ use Rattle.std.proofs.lemmas.Bool.{cases_eq}
 use Rattle.ot_causal.specs.Members.{has, without, HaveOneSet}
 use Rattle.ot_causal.specs.Past.{Past, IsNext, IsClosed, IsReady, IsOrderly, IsFree, IsOpening}
 use Rattle.ot_causal.specs.Forms.{newest_open}
-use Rattle.ot_causal.proofs.Members.{has-itself, has-older, has-other, has-cases, differ-has, has-without, has-without_itself, has-from_without, length-without}
-use Rattle.ot_causal.proofs.Members.{HaveOneSet-taken_out}
-use Rattle.ot_causal.proofs.Closed.{IsDistinct-closed, made-member, IsFree-other, has-newest_open, before-newest_open, IsNext-without, IsClosed-without}
-use Rattle.ot_causal.proofs.Closed.{IsFree-newest_open, IsNext-taken_out}
+use Rattle.ot_causal.proofs.Members.{has-itself, has-older, has-other, has-cases, differ-has, has-without}
+use Rattle.ot_causal.proofs.Members.{has-without_itself, has-from_without, length-without, HaveOneSet-taken_out}
+use Rattle.ot_causal.proofs.Closed.{IsDistinct-closed, made-member, IsFree-other, has-newest_open, before-newest_open}
+use Rattle.ot_causal.proofs.Closed.{IsNext-without, IsClosed-without, IsFree-newest_open, IsNext-taken_out}
 
 -- two members x and y, taken out of two lists of one set: both are next behind the list without both
 pub record IsDiamond (past : Past) (x y : ℕ) (l m both : List ℕ) : Type 0 where
@@ -31,7 +31,8 @@ IsNext-newer past x l o differ next = record {
 
 module _ (past : Past) (order : IsOrderly past) where
   -- the newest member that is not before an operation is an opening of its list
-  pub IsOpening-newest_open : (o : ℕ) (l : List ℕ) (x : ℕ) → IsReady past o l → newest_open past o l ≡ Some x → IsOpening past o l x
+  pub IsOpening-newest_open : (o : ℕ) (l : List ℕ) (x : ℕ) → IsReady past o l
+      → newest_open past o l ≡ Some x → IsOpening past o l x
   IsOpening-newest_open o l x ready found = record {
     made = made-member past l x ready.1 member;
     member = member;
@@ -62,10 +63,12 @@ module _ (past : Past) (order : IsOrderly past) where
 
   -- two operations that are each before no member can be taken out in either order
   pub IsDiamond-free : (x y : ℕ) (l m : List ℕ) → x ≢ y → IsClosed past l → IsClosed past m → HaveOneSet l m
-      → has l x ≡ true → has m y ≡ true → IsFree past x l → IsFree past y m → IsDiamond past x y l m (without y (without x l))
+      → has l x ≡ true → has m y ≡ true → IsFree past x l → IsFree past y m
+      → IsDiamond past x y l m (without y (without x l))
   IsDiamond-free x y l m differ closed_l closed_m same x_in_l y_in_m free_x free_y = record {
     closed = IsClosed-without past y (without x l) closed free_y_there;
-    next_x = IsNext-without past y (without x l) x (IsNext-taken_out past order x l closed_l x_in_l) (free_y.at x (sym (same.at x) ∙ x_in_l));
+    next_x = IsNext-without past y (without x l) x (IsNext-taken_out past order x l closed_l x_in_l)
+        (free_y.at x (sym (same.at x) ∙ x_in_l));
     next_y = IsNext-taken_out past order y (without x l) closed y_there;
     apart = free_x.at y (same.at y ∙ y_in_m);
     apart_back = free_y.at x (sym (same.at x) ∙ x_in_l);
@@ -91,6 +94,7 @@ module _ (past : Past) (order : IsOrderly past) where
           | inl is ↦ subst (λ (w : ℕ). has (without y (without x l)) w ≡ has (without y m) w) (sym is)
               (has-without_itself y (without x l) (IsDistinct-closed past (without x l) closed)
               ∙ sym (has-without_itself y m (IsDistinct-closed past m closed_m)))
-          | inr not_y ↦ has-without y (without x l) z not_y ∙ has-without x l z not_x ∙ same.at z ∙ sym (has-without y m z not_y)
+          | inr not_y ↦ has-without y (without x l) z not_y ∙ has-without x l z not_x ∙ same.at z
+              ∙ sym (has-without y m z not_y)
         ]
       ]

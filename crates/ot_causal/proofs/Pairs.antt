@@ -42,13 +42,16 @@ module _ (f : Function) (has : CarriesForms f) (past : Past) where
   state-same_older first o l m same same_form =
       ap₂ (λ p before. option_and_then (λ d. executed f p d) before) same_form same
 
-  IsAllowed-there : (d : List Cell) (x y : ℕ) (l : List ℕ) (as_x : HasFormOn f past d x l) (as_y : HasFormOn f past d y l)
+  IsAllowed-there : (d : List Cell) (x y : ℕ) (l : List ℕ) (as_x : HasFormOn f past d x l)
+      (as_y : HasFormOn f past d y l)
       → IsAllowed f (past.operation x) (past.operation y) → IsAllowed f as_x.there as_y.there
   IsAllowed-there d x y l as_x as_y allowed =
       has.keeps.allowed_back as_y.there as_x.there
-      (as_y.allowed as_x.there (has.keeps.allowed_back as_x.there (past.operation y) (as_x.allowed (past.operation y) allowed)))
+      (as_y.allowed as_x.there
+      (has.keeps.allowed_back as_x.there (past.operation y) (as_x.allowed (past.operation y) allowed)))
 
-  pub ConvergesAt-there : (d : List Cell) (x y : ℕ) (l : List ℕ) (as_x : HasFormOn f past d x l) (as_y : HasFormOn f past d y l)
+  pub ConvergesAt-there : (d : List Cell) (x y : ℕ) (l : List ℕ) (as_x : HasFormOn f past d x l)
+      (as_y : HasFormOn f past d y l)
       → IsAllowed f (past.operation x) (past.operation y) → ConvergesAt f d as_x.there as_y.there
   ConvergesAt-there d x y l as_x as_y allowed =
       has.converging d as_x.there as_y.there as_x.integrable as_y.integrable (IsAllowed-there d x y l as_x as_y allowed)
@@ -59,10 +62,12 @@ module _ (f : Function) (has : CarriesForms f) (past : Past) where
       → IsAllowed f (past.operation y) (past.operation o) → CommutesAt f as_x.there as_y.there as_o.there
   CommutesAt-there d x y o l as_x as_y as_o x_with_y x_with_o y_with_o =
       has.commuting d as_x.there as_y.there as_o.there as_x.integrable as_y.integrable as_o.integrable
-      (IsAllowed-there d x y l as_x as_y x_with_y) (IsAllowed-there d x o l as_x as_o x_with_o) (IsAllowed-there d y o l as_y as_o y_with_o)
+      (IsAllowed-there d x y l as_x as_y x_with_y) (IsAllowed-there d x o l as_x as_o x_with_o)
+      (IsAllowed-there d y o l as_y as_o y_with_o)
 
   -- what a list's form is that is the second one's, transformed by the first one's
-  abbrev pub HasFormOn-behind : (d : List Cell) (x y : ℕ) (l m : List ℕ) (as_x : HasFormOn f past d x l) (as_y : HasFormOn f past d y l)
+  abbrev pub HasFormOn-behind : (d : List Cell) (x y : ℕ) (l m : List ℕ) (as_x : HasFormOn f past d x l)
+      (as_y : HasFormOn f past d y l)
       → (converges : ConvergesAt f d as_x.there as_y.there)
       → form f past y m ≡ transformed f (form f past y l) (form f past x l)
       → HasFormOn f past (after f as_x.there d) y m
@@ -70,11 +75,13 @@ module _ (f : Function) (has : CarriesForms f) (past : Past) where
     there = converges.b_after_a;
     is = is ∙ ap₂ (transformed f) as_y.is as_x.is ∙ converges.b_transformed;
     integrable = record {
-      declared = has.keeps.declared as_y.there as_x.there converges.b_after_a converges.b_transformed as_y.integrable.declared;
+      declared =
+          has.keeps.declared as_y.there as_x.there converges.b_after_a converges.b_transformed as_y.integrable.declared;
       enabled = converges.b_enabled;
     };
     allowed = λ other with_y.
-        has.keeps.allowed as_y.there as_x.there converges.b_after_a other converges.b_transformed (as_y.allowed other with_y);
+        has.keeps.allowed as_y.there as_x.there converges.b_after_a other converges.b_transformed
+        (as_y.allowed other with_y);
   }
 
   -- two operations of which none is before the other, integrated in either order, lead to one document
@@ -84,7 +91,8 @@ module _ (f : Function) (has : CarriesForms f) (past : Past) where
       → state f past first (x ∷ y ∷ l) ≡ state f past first (y ∷ x ∷ l)
   state-flip first x y l d is as_x as_y converges apart apart_back =
       state-executed first x (y ∷ l) (after f as_y.there d) (state-executed first y l d is as_y)
-      (HasFormOn-behind d y x l (y ∷ l) as_y as_x (converges_exchanged f d as_x.there as_y.there converges) (form-cons f past x y l apart_back))
+      (HasFormOn-behind d y x l (y ∷ l) as_y as_x (converges_exchanged f d as_x.there as_y.there converges)
+      (form-cons f past x y l apart_back))
       ∙ ap Some (sym converges.one_document)
       ∙ sym (state-executed first y (x ∷ l) (after f as_x.there d) (state-executed first x l d is as_x)
       (HasFormOn-behind d x y l (x ∷ l) as_x as_y converges (form-cons f past y x l apart)))

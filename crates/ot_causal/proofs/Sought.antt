@@ -1,5 +1,6 @@
 -- What is sought and counted: lists that are ready for their operations, and each form once.
-use Rattle.std.proofs.Common.{◌≡◌, ℕ, zero, suc, ◌<◌, ◌≤◌, false, cond, List, [], ◌∷◌, ◌++◌, length, Option, Some, None, refl, inl, inr, arith}
+use Rattle.std.proofs.Common.{◌≡◌, ℕ, zero, suc, ◌<◌, ◌≤◌, false, cond, List, [], ◌∷◌, ◌++◌, length, Option, Some, None}
+use Rattle.std.proofs.Common.{refl, inl, inr, arith}
 use Rattle.std.specs.List.{AllByRecursion}
 use Rattle.std.proofs.lemmas.Bool.{cases_Bool}
 use Rattle.ot_causal.specs.Members.{without}
@@ -21,12 +22,14 @@ IsApart-count_sought names (name ∷ more) apart = elim (cases_Bool (is_among na
   | inr other ↦ rw other (IsApart-count_sought (name ∷ names) more (other, apart))
 ]
 
-pub AllByRecursion-append : (P : FormName → Type 0) (names more : List FormName) → AllByRecursion P names → AllByRecursion P more
+pub AllByRecursion-append : (P : FormName → Type 0) (names more : List FormName)
+    → AllByRecursion P names → AllByRecursion P more
     → AllByRecursion P (names ++ more)
 AllByRecursion-append P [] more all all_more = all_more
 AllByRecursion-append P (name ∷ names) more all all_more = (all.0, AllByRecursion-append P names more all.1 all_more)
 
-pub AllByRecursion-count_sought : (P : FormName → Type 0) (names more : List FormName) → AllByRecursion P names → AllByRecursion P more
+pub AllByRecursion-count_sought : (P : FormName → Type 0) (names more : List FormName)
+    → AllByRecursion P names → AllByRecursion P more
     → AllByRecursion P (count_sought names more)
 AllByRecursion-count_sought P names [] all all_more = all
 AllByRecursion-count_sought P names (name ∷ more) all all_more = elim (cases_Bool (is_among names name)) [
@@ -42,9 +45,11 @@ length-count_sought names (name ∷ more) = elim (cases_Bool (is_among names nam
   | inr other ↦ rw other (omega (arith, length-count_sought (name ∷ names) more))
 ]
 
-pub count_sought-append : (names first more : List FormName) → count_sought names (first ++ more) ≡ count_sought (count_sought names first) more
+pub count_sought-append : (names first more : List FormName)
+    → count_sought names (first ++ more) ≡ count_sought (count_sought names first) more
 count_sought-append names [] more = refl
-count_sought-append names (name ∷ first) more = count_sought-append (cond (is_among names name) names (name ∷ names)) first more
+count_sought-append names (name ∷ first) more =
+    count_sought-append (cond (is_among names name) names (name ∷ names)) first more
 
 -- the form's list is ready for its operation
 abbrev pub IsReadyName : Past → FormName → Type 0
@@ -52,7 +57,8 @@ IsReadyName past name = IsReady past name.of name.behind
 
 module _ (past : Past) (order : IsOrderly past) where
   -- what holds of each form behind a list of no more members holds of all that is sought
-  sought-all_within : (P : FormName → Type 0) (k : ℕ) → ((o : ℕ) (l : List ℕ) → length l ≤ k → IsReady past o l → P (name_of o l))
+  sought-all_within : (P : FormName → Type 0) (k : ℕ)
+      → ((o : ℕ) (l : List ℕ) → length l ≤ k → IsReady past o l → P (name_of o l))
       → (n o : ℕ) (l : List ℕ) → length l < n → length l ≤ k → IsReady past o l → AllByRecursion P (sought past o l)
   sought-all_within P k each zero o l below_n small ready = absurd (omega (arith, below_n))
   sought-all_within P k each (suc n) o l below_n small ready =
@@ -67,11 +73,12 @@ module _ (past : Past) (order : IsOrderly past) where
           rw (sought-newest_open past o l x found)
           (AllByRecursion-append P (sought past o (without x l) ++ sought past x (without x l)) (name_of o l ∷ [])
           (AllByRecursion-append P (sought past o (without x l)) (sought past x (without x l))
-          (below o (without x l) (omega (arith, below_n, opening.shorter)) (omega (arith, small, opening.shorter)) (opening.next, opening.closed))
-          (below x (without x l) (omega (arith, below_n, opening.shorter)) (omega (arith, small, opening.shorter)) (opening.next_member, opening.closed)))
-          (each o l small ready, tt))
+          (below o (without x l) (omega (arith, below_n, opening.shorter)) (omega (arith, small, opening.shorter))
+          (opening.next, opening.closed)) (below x (without x l) (omega (arith, below_n, opening.shorter))
+          (omega (arith, small, opening.shorter)) (opening.next_member, opening.closed))) (each o l small ready, tt))
 
-  pub sought-all : (P : FormName → Type 0) (o : ℕ) (l : List ℕ) → ((p : ℕ) (m : List ℕ) → length m ≤ length l → IsReady past p m → P (name_of p m))
+  pub sought-all : (P : FormName → Type 0) (o : ℕ) (l : List ℕ)
+      → ((p : ℕ) (m : List ℕ) → length m ≤ length l → IsReady past p m → P (name_of p m))
       → IsReady past o l → AllByRecursion P (sought past o l)
   sought-all P o l each = sought-all_within P (length l) each (suc (length l)) o l (omega arith) (omega arith)
 
@@ -81,8 +88,10 @@ module _ (past : Past) (order : IsOrderly past) where
   pub ready-counted : (l : List ℕ) → IsClosed past l → AllByRecursion (IsReadyName past) (counted past l)
   ready-counted [] closed = rw (counted-nil past) tt
   ready-counted (o ∷ l) closed = rw (counted-cons past o l)
-      (AllByRecursion-count_sought (IsReadyName past) (counted past l) (sought past o l) (ready-counted l closed.1) (ready-sought o l closed))
+      (AllByRecursion-count_sought (IsReadyName past) (counted past l) (sought past o l) (ready-counted l closed.1)
+      (ready-sought o l closed))
 
 pub IsApart-counted : (past : Past) (l : List ℕ) → IsApart (counted past l)
 IsApart-counted past [] = rw (counted-nil past) tt
-IsApart-counted past (o ∷ l) = rw (counted-cons past o l) (IsApart-count_sought (counted past l) (sought past o l) (IsApart-counted past l))
+IsApart-counted past (o ∷ l) =
+    rw (counted-cons past o l) (IsApart-count_sought (counted past l) (sought past o l) (IsApart-counted past l))

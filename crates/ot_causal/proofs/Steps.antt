@@ -1,5 +1,6 @@
 -- What always holds of a session holds of a new one, and each step keeps it.
-use Rattle.std.proofs.Common.{◌≡◌, ◌≢◌, ◌⊎◌, ℕ, ◌<◌, true, List, ◌∷◌, length, Some, sym, ap, ◌∙◌, subst, inl, inr, arith}
+use Rattle.std.proofs.Common.{◌≡◌, ◌≢◌, ◌⊎◌, ℕ, ◌<◌, true, List, ◌∷◌, length, Some, sym, ap, ◌∙◌, subst, inl, inr}
+use Rattle.std.proofs.Common.{arith}
 use Rattle.std.specs.Prelude.{unwrap_or}
 use Rattle.std.proofs.lemmas.Bool.{cases_eq, false_from_ne_true}
 use Rattle.ot_model.specs.declared.cell.Cell.{Cell}
@@ -10,7 +11,8 @@ use Rattle.fn_rules.specs.Functions.{Function, HasDeclaredKind}
 use Rattle.ot_causal.specs.Members.{has}
 use Rattle.ot_causal.specs.Past.{Past, maker, IsNext, IsClosed, AreMade, Extends}
 use Rattle.ot_causal.specs.Forms.{executed, state}
-use Rattle.ot_causal.specs.Sessions.{IsBorn, SessionData, IsSite, IsSound, IsNew, KeepsOthers, Makes, MayMake, Integrates}
+use Rattle.ot_causal.specs.Sessions.{IsBorn, SessionData, IsSite, IsSound, IsNew, KeepsOthers, Makes, MayMake}
+use Rattle.ot_causal.specs.Sessions.{Integrates}
 use Rattle.ot_causal.proofs.Members.{has-itself, has-older}
 use Rattle.ot_causal.proofs.Closed.{AreMade-closed, newest_open-none}
 use Rattle.ot_causal.proofs.Forms.{form-none_open, state-nil, state-cons}
@@ -32,7 +34,8 @@ IsSound-new f d session is_new = record {
 }
 
 -- an operation is born where it was, whatever was made since
-IsBorn-extended : (f : Function) (old new : Past) (first : List Cell) (o : ℕ) → Extends old new → o < old.count → IsBorn f old first o
+IsBorn-extended : (f : Function) (old new : Past) (first : List Cell) (o : ℕ) → Extends old new
+    → o < old.count → IsBorn f old first o
     → IsBorn f new first o
 IsBorn-extended f old new first o extends made born = record {
   known = born.known;
@@ -48,7 +51,8 @@ maker-extended : (old new : Past) (o : ℕ) → Extends old new → o < old.coun
 maker-extended old new o extends made = ap (λ p. unwrap_or (site_of p) 0) (extends.operations o made)
 
 -- what a step at one site leaves of the others
-module _ (f : Function) (old new : SessionData) (s : ℕ) (keeps : KeepsOthers old new s) (extends : Extends old.past new.past)
+module _ (f : Function) (old new : SessionData) (s : ℕ) (keeps : KeepsOthers old new s)
+    (extends : Extends old.past new.past)
     (sound : IsSound f old) where
   site_before : (u : ℕ) → IsSite new.sites u → IsSite old.sites u
   site_before u site = subst (λ (sites : ℕ). IsSite sites u) keeps.sites site
@@ -61,7 +65,8 @@ module _ (f : Function) (old new : SessionData) (s : ℕ) (keeps : KeepsOthers o
       → (new.past.before x y ≡ true) ⊎ (new.past.before y x ≡ true)
   ordered_before x y made_x made_y one_site differ =
       elim (sound.past.ordered x y made_x made_y
-      (sym (maker-extended old.past new.past x extends made_x) ∙ one_site ∙ maker-extended old.past new.past y extends made_y) differ) [
+      (sym (maker-extended old.past new.past x extends made_x) ∙ one_site
+      ∙ maker-extended old.past new.past y extends made_y) differ) [
         | inl before ↦ inl (extends.befores x y made_y ∙ before)
         | inr behind ↦ inr (extends.befores y x made_x ∙ behind)
       ]
@@ -77,25 +82,30 @@ module _ (f : Function) (old new : SessionData) (s : ℕ) (keeps : KeepsOthers o
   state_before : (u : ℕ) → IsSite new.sites u → state f new.past new.first (old.seen u) ≡ Some (old.document u)
   state_before u site =
       ap (λ d. state f new.past d (old.seen u)) keeps.first
-      ∙ state-extended old.past new.past extends f old.first (old.seen u) (AreMade-closed old.past (old.seen u) (sound.closed u (site_before u site)))
+      ∙ state-extended old.past new.past extends f old.first (old.seen u)
+      (AreMade-closed old.past (old.seen u) (sound.closed u (site_before u site)))
       ∙ sound.documents u (site_before u site)
 
-  documents_other : (u : ℕ) → IsSite new.sites u → u ≢ s → state f new.past new.first (new.seen u) ≡ Some (new.document u)
+  documents_other : (u : ℕ) → IsSite new.sites u → u ≢ s
+      → state f new.past new.first (new.seen u) ≡ Some (new.document u)
   documents_other u site other =
       ap (state f new.past new.first) (keeps.seen u (site_before u site) other)
       ∙ state_before u site
       ∙ ap Some (sym (keeps.documents u (site_before u site) other))
 
   -- a site that integrated one more has what it had
-  own_before : (newest o : ℕ) → new.seen s ≡ newest ∷ old.seen s → o < old.past.count → has (new.seen (maker new.past o)) o ≡ true
-  own_before newest o seen made = rw (maker-extended old.past new.past o extends made) (elim (cases_eq (maker old.past o) s) [
-    | inl here ↦ rw here (rw seen (has-older newest (old.seen s) o (rw here at (sound.own o made))))
-    | inr other ↦ rw (keeps.seen (maker old.past o) (sound.sites o made) other) (sound.own o made)
-  ])
+  own_before : (newest o : ℕ) → new.seen s ≡ newest ∷ old.seen s → o < old.past.count
+      → has (new.seen (maker new.past o)) o ≡ true
+  own_before newest o seen made =
+      rw (maker-extended old.past new.past o extends made) (elim (cases_eq (maker old.past o) s) [
+        | inl here ↦ rw here (rw seen (has-older newest (old.seen s) o (rw here at (sound.own o made))))
+        | inr other ↦ rw (keeps.seen (maker old.past o) (sound.sites o made) other) (sound.own o made)
+      ])
 
 -- making an operation
 module _ (f : Function) (tested : (n : ℕ) (o : Op) → IsEnabled o n → is_enabled o n ≡ true)
-    (old new : SessionData) (s : ℕ) (a : Op) (may : MayMake f old s a) (makes : Makes f old new s a) (sound : IsSound f old) where
+    (old new : SessionData) (s : ℕ) (a : Op) (may : MayMake f old s a) (makes : Makes f old new s a)
+    (sound : IsSound f old) where
   abbrev number : ℕ
   number = old.past.count
 
@@ -196,12 +206,14 @@ module _ (f : Function) (tested : (n : ℕ) (o : Op) → IsEnabled o n → is_en
     own = λ x made. elim (is_old_or_newest x made) [
       | inl before ↦ own_before f old new s makes.keeps makes.extends sound number x makes.seen before
       | inr newest ↦ subst (λ (z : ℕ). has (new.seen (maker new.past z)) z ≡ true) (sym newest)
-          (ap (λ u. has (new.seen u) number) newest_maker ∙ ap (λ l. has l number) makes.seen ∙ has-itself number (old.seen s))
+          (ap (λ u. has (new.seen u) number) newest_maker ∙ ap (λ l. has l number) makes.seen
+          ∙ has-itself number (old.seen s))
     ];
   }
 
 -- integrating an operation
-module _ (f : Function) (old new : SessionData) (s o : ℕ) (integrates : Integrates f old new s o) (sound : IsSound f old) where
+module _ (f : Function) (old new : SessionData) (s o : ℕ) (integrates : Integrates f old new s o)
+    (sound : IsSound f old) where
   made_before : (x : ℕ) → x < new.past.count → x < old.past.count
   made_before x made = omega (arith, made, integrates.count)
 
@@ -222,7 +234,8 @@ module _ (f : Function) (old new : SessionData) (s o : ℕ) (integrates : Integr
     past = record {
       born = λ x made. born_before f old new s integrates.keeps integrates.extends sound x (made_before x made);
       ordered = λ x y made_x made_y.
-          ordered_before f old new s integrates.keeps integrates.extends sound x y (made_before x made_x) (made_before y made_y);
+          ordered_before f old new s integrates.keeps integrates.extends sound x y
+          (made_before x made_x) (made_before y made_y);
     };
     closed = λ u site. elim (cases_eq u s) [
       | inl here ↦ subst (λ (z : ℕ). IsClosed new.past (new.seen z)) (sym here)
@@ -238,5 +251,6 @@ module _ (f : Function) (old new : SessionData) (s o : ℕ) (integrates : Integr
       | inr other ↦ documents_other f old new s integrates.keeps integrates.extends sound u site other
     ];
     sites = λ x made. site_of_made f old new s integrates.keeps integrates.extends sound x (made_before x made);
-    own = λ x made. own_before f old new s integrates.keeps integrates.extends sound o x integrates.seen (made_before x made);
+    own = λ x made. own_before f old new s integrates.keeps integrates.extends sound o x
+        integrates.seen (made_before x made);
   }

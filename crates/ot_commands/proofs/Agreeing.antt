@@ -1,6 +1,6 @@
 -- Where sites that have integrated the same operations hold one document, no two of them differ.
-use Rattle.std.proofs.Common.{◌≡◌, ℕ, suc, zero, ◌+◌, ◌-◌, ◌<◌, Bool, true, false, ◌||◌, nat_eq, List, [], ◌∷◌, ◌++◌, length, map, reverse, Option, Some, None}
-use Rattle.std.proofs.Common.{ap, sym, refl, ◌∙◌, inl, inr, arith}
+use Rattle.std.proofs.Common.{◌≡◌, ℕ, suc, zero, ◌+◌, ◌-◌, ◌<◌, Bool, true, false, ◌||◌, nat_eq, List, [], ◌∷◌, ◌++◌}
+use Rattle.std.proofs.Common.{length, map, reverse, Option, Some, None, ap, sym, refl, ◌∙◌, inl, inr, arith}
 use Rattle.std.specs.Prelude.{slice_get}
 use Rattle.std.proofs.Math.Bool.{or_assoc}
 use Rattle.std.proofs.lemmas.List.{reverse-append}
@@ -22,7 +22,8 @@ AllAgree [] = Unit {0}
 AllAgree (one ∷ others) = AgreesWith one others × AllAgree others
 
 none_other :
-    (one : SiteEnd) (t : ℕ) (others : List SiteEnd) (found : Option ℕ) → AgreesWith one others → IsFirstOther one t others found
+    (one : SiteEnd) (t : ℕ) (others : List SiteEnd) (found : Option ℕ) → AgreesWith one others
+    → IsFirstOther one t others found
     → found ≡ None
 none_other one t [] found agrees is = is
 none_other one t (other ∷ others) found agrees (inl (differ, is)) = absurd (agrees.0 differ)
@@ -31,7 +32,8 @@ none_other one t (other ∷ others) found agrees (inr (same, rest)) = none_other
 some_is_none : (t : ℕ) → ◌≡◌ {A = Option ℕ} (Some t) None → ⊥
 some_is_none t same = cc
 
-none_pair : (s : ℕ) (ends : List SiteEnd) (found : Option (ℕ × ℕ)) → AllAgree ends → IsFirstPair s ends found → found ≡ None
+none_pair : (s : ℕ) (ends : List SiteEnd) (found : Option (ℕ × ℕ)) → AllAgree ends
+    → IsFirstPair s ends found → found ≡ None
 none_pair s [] found agree is = is
 none_pair s (one ∷ others) found agree (inl (t, other, is)) =
     absurd (some_is_none t (none_other one (s + 1) others (Some t) agree.0 other))
@@ -89,7 +91,8 @@ seen_there o a is = ap (λ (x : Option SiteView). seen_in x) is
 document_there : (o : Option SiteView) (a : SiteView) → o ≡ Some a → site_document o ≡ a.document
 document_there o a is = ap (λ (x : Option SiteView). site_document x) is
 
-there : (sites : List SiteView) (i : ℕ) (a : SiteView) → slice_get sites i ≡ Some a → slice_get sites (i + 1 - 1) ≡ Some a
+there : (sites : List SiteView) (i : ℕ) (a : SiteView) → slice_get sites i ≡ Some a
+    → slice_get sites (i + 1 - 1) ≡ Some a
 there sites i a is = let same : i + 1 - 1 ≡ i = omega arith in ap (λ (n : ℕ). slice_get sites n) same ∙ is
 
 is_site : (sites : List SiteView) (i : ℕ) (a : SiteView) → slice_get sites i ≡ Some a → IsSite (length sites) (i + 1)

@@ -1,6 +1,7 @@
 -- The reply to what was read of a proof's file.
-use Rattle.std.proofs.Common.{◌≡◌, ◌≢◌, ◌⊎◌, inl, inr, ℕ, zero, suc, ◌+◌, ◌-◌, ◌<◌, ◌≤◌, Bool, true, false, IsTrue, List, [], ◌∷◌, ◌++◌, length, take}
-use Rattle.std.proofs.Common.{drop, Option, Some, None, Result, Ok, Err, OnOk, refl, sym, ap, ◌∙◌, arith, subst}
+use Rattle.std.proofs.Common.{◌≡◌, ◌≢◌, ◌⊎◌, inl, inr, ℕ, zero, suc, ◌+◌, ◌-◌, ◌<◌, ◌≤◌, Bool, true, false, IsTrue}
+use Rattle.std.proofs.Common.{List, [], ◌∷◌, ◌++◌, length, take, drop, Option, Some, None, Result, Ok, Err, OnOk, refl}
+use Rattle.std.proofs.Common.{sym, ap, ◌∙◌, arith, subst}
 use Rattle.std.specs.Option.{ForSome}
 use Rattle.std.proofs.Math.Seq.{take-append-add}
 use Rattle.std.proofs.lemmas.List.{take-append-drop}
@@ -24,20 +25,23 @@ use Rattle.ot_commands.specs.Confirm.{IsReplyBy, IsReplyToConfirmed, TellsJudgem
 -- a refusal of bytes that do not end too early stands where more follow
 abbrev pub Stands : Function → Type 0
 Stands f =
-    (bytes more : List ℕ) (offset : ℕ) (cause : ProofRefusal) → judgement_of f bytes ≡ Err (confirm.Refused offset cause)
+    (bytes more : List ℕ) (offset : ℕ) (cause : ProofRefusal)
+    → judgement_of f bytes ≡ Err (confirm.Refused offset cause)
     → cause ≢ why.Truncated → judgement_of f (bytes ++ more) ≡ Err (confirm.Refused offset cause)
 
 -- what tells a judgement, or rests on more bytes, is no want of memory
 pub tells_judgement :
     (judged is : Result Level ConfirmError) (r : Reply) → (judged ≡ Err confirm.NoMemory) ⊎ (judged ≡ is)
     → TellsJudgement judged r → TellsJudgement is r
-tells_judgement judged is r (inl none) tells = absurd (subst (λ (j : Result Level ConfirmError). TellsJudgement j r) none tells)
+tells_judgement judged is r (inl none) tells =
+    absurd (subst (λ (j : Result Level ConfirmError). TellsJudgement j r) none tells)
 tells_judgement judged is r (inr same) tells = subst (λ (j : Result Level ConfirmError). TellsJudgement j r) same tells
 
 pub rests_judgement :
     (judged is : Result Level ConfirmError) (rests : Bool) → (judged ≡ Err confirm.NoMemory) ⊎ (judged ≡ is)
     → rests ≡ rests_on_more judged → rests ≡ true → IsTrue (rests_on_more is)
-rests_judgement judged is rests (inl none) test holds = absurd (let e : true ≡ false = sym holds ∙ test ∙ ap rests_on_more none in cc)
+rests_judgement judged is rests (inl none) test holds =
+    absurd (let e : true ≡ false = sym holds ∙ test ∙ ap rests_on_more none in cc)
 rests_judgement judged is rests (inr same) test holds = ap rests_on_more (sym same) ∙ sym test ∙ holds
 
 within_limit : (n : ℕ) (bytes : List ℕ) → length bytes ≤ n → take n bytes ≡ bytes
@@ -79,20 +83,23 @@ whole_file f told bytes r known few tells = (
   known,
   inr (
     λ rests. few,
-    subst (λ (l : List ℕ). TellsJudgement (judgement_of f l) r) (sym (within_limit (limit_of files.Proof) bytes few)) tells,
+    subst (λ (l : List ℕ). TellsJudgement (judgement_of f l) r)
+        (sym (within_limit (limit_of files.Proof) bytes few)) tells,
   ),
 )
 
 -- the file is longer than the limit
 pub long_file :
-    (f : Function) (told : Option (List ℕ)) (bytes : List ℕ) → ForSome told (λ known. limit_of files.Proof < length known)
+    (f : Function) (told : Option (List ℕ)) (bytes : List ℕ)
+    → ForSome told (λ known. limit_of files.Proof < length known)
     → ForSome told (IsFront bytes) → length bytes ≡ limit_of files.Proof → IsTrue (rests_on_more (judgement_of f bytes))
     → IsReplyToConfirmed f told (TooLong files.Proof)
 long_file f None bytes long front full rests = (
   bytes,
   λ known e. absurd (cc),
   inl (
-    subst (λ (l : List ℕ). IsTrue (rests_on_more (judgement_of f l))) (sym (within_limit (limit_of files.Proof) bytes (omega arith))) rests,
+    subst (λ (l : List ℕ). IsTrue (rests_on_more (judgement_of f l)))
+        (sym (within_limit (limit_of files.Proof) bytes (omega arith))) rests,
     (long, refl),
   ),
 )
@@ -106,7 +113,8 @@ long_file f (Some known) bytes long front full rests =
 -- what was read is refused, whatever follows
 pub refused_front :
     (f : Function) (told : Option (List ℕ)) (bytes : List ℕ) (r : Reply) → Stands f → ForSome told (IsFront bytes)
-    → length bytes ≤ limit_of files.Proof → rests_on_more (judgement_of f bytes) ≡ false → TellsJudgement (judgement_of f bytes) r
+    → length bytes ≤ limit_of files.Proof → rests_on_more (judgement_of f bytes) ≡ false
+    → TellsJudgement (judgement_of f bytes) r
     → IsReplyToConfirmed f told r
 refused_front f None bytes r stands front few fixed tells =
     whole_file f None bytes r (λ known e. absurd (cc)) few tells
@@ -126,7 +134,8 @@ refused_front f (Some known) bytes r stands front few fixed tells =
 stands_judgement :
     (f : Function) (told : Option (List ℕ)) (bytes : List ℕ) (judged : Result Level ConfirmError) (r : Reply) → Stands f
     → (judged ≡ Err confirm.NoMemory) ⊎ (judged ≡ judgement_of f bytes) → ForSome told (IsFront bytes)
-    → length bytes ≤ limit_of files.Proof → rests_on_more judged ≡ false → TellsJudgement judged r → IsReplyToConfirmed f told r
+    → length bytes ≤ limit_of files.Proof → rests_on_more judged ≡ false → TellsJudgement judged r
+    → IsReplyToConfirmed f told r
 stands_judgement f told bytes judged r stands (inl none) front few fixed tells =
     absurd (subst (λ (j : Result Level ConfirmError). TellsJudgement j r) none tells)
 stands_judgement f told bytes judged r stands (inr same) front few fixed tells =
@@ -135,9 +144,11 @@ stands_judgement f told bytes judged r stands (inr same) front few fixed tells =
 
 -- the reply to what was read, by how reading ended
 pub by_reading :
-    (f : Function) (told : Option (List ℕ)) (bytes : List ℕ) (read : Result (Unit {0}) ReadError) (judged : Result Level ConfirmError) (r : Reply)
+    (f : Function) (told : Option (List ℕ)) (bytes : List ℕ) (read : Result (Unit {0}) ReadError)
+    (judged : Result Level ConfirmError) (r : Reply)
     → Stands f → (judged ≡ Err confirm.NoMemory) ⊎ (judged ≡ judgement_of f bytes)
-    → (read ≡ Ok tt → ForSome told (λ known. bytes ≡ known)) → ForSome told (IsFront bytes) → length bytes ≤ limit_of files.Proof
+    → (read ≡ Ok tt → ForSome told (λ known. bytes ≡ known)) → ForSome told (IsFront bytes)
+    → length bytes ≤ limit_of files.Proof
     → (read ≡ Err reading.TooLong → ForSome told (λ known. limit_of files.Proof < length known))
     → (read ≡ Err reading.TooLong → length bytes ≡ limit_of files.Proof)
     → IsReplyBy read judged r → IsReplyToConfirmed f told r
@@ -145,7 +156,8 @@ by_reading f told bytes (Ok u) judged r stands is known front few long full repl
     whole_file f told bytes r (known refl) few (tells_judgement judged (judgement_of f bytes) r is reply)
 by_reading f told bytes (Err reading.TooLong) judged r stands is known front few long full (inl (rests, too_long)) =
     subst (λ (x : Reply). IsReplyToConfirmed f told x) (sym too_long)
-    (long_file f told bytes (long refl) front (full refl) (rests_judgement judged (judgement_of f bytes) true is (sym rests) refl))
+    (long_file f told bytes (long refl) front (full refl)
+    (rests_judgement judged (judgement_of f bytes) true is (sym rests) refl))
 by_reading f told bytes (Err reading.TooLong) judged r stands is known front few long full (inr (fixed, tells)) =
     stands_judgement f told bytes judged r stands is front few fixed tells
 by_reading f told bytes (Err reading.Failed) judged r stands is known front few long full (fixed, tells) =
@@ -163,12 +175,14 @@ module _ (f : Function) (n : ℕ) (limit : n ≡ limit_of files.Proof) (bytes no
       → IsReplyToConfirmed f told r
   reply_told told known front long r reply =
       by_reading f told bytes read judged r stands
-      (subst (λ (l : List ℕ). (judged ≡ Err confirm.NoMemory) ⊎ (judged ≡ judgement_of f l)) same is) known front (omega (arith, few, limit))
+      (subst (λ (l : List ℕ). (judged ≡ Err confirm.NoMemory) ⊎ (judged ≡ judgement_of f l)) same is) known front
+      (omega (arith, few, limit))
       (λ e. subst (λ (m : ℕ). ForSome told (λ known. m < length known)) limit (long e)) (λ e. full e ∙ limit) reply
 
   -- whatever is told of a file of which bytes were given
   pub reply_given :
-      (given : List ℕ) → (read ≡ Ok tt → given ≡ bytes) → IsFront bytes given → (read ≡ Err reading.TooLong → n < length given)
+      (given : List ℕ) → (read ≡ Ok tt → given ≡ bytes) → IsFront bytes given
+      → (read ≡ Err reading.TooLong → n < length given)
       → (r : Reply) → IsReplyBy read judged r → ForTold given (λ told. IsReplyToConfirmed f told r)
   reply_given given whole front long r reply told agrees =
       reply_told told (λ e known is. sym (whole e) ∙ sym (agrees known is))

@@ -1,5 +1,6 @@
 -- A workload's function is proved where its questions are few enough, and never refuted.
-use Rattle.std.proofs.Common.{◌≡◌, ◌≢◌, ◌≤◌, ◌<◌, ◌⊎◌, ℕ, List, length, Result, Ok, Err, IsTrue, sym, subst, inl, inr, arith}
+use Rattle.std.proofs.Common.{◌≡◌, ◌≢◌, ◌≤◌, ◌<◌, ◌⊎◌, ℕ, List, length, Result, Ok, Err, IsTrue, sym, subst, inl, inr}
+use Rattle.std.proofs.Common.{arith}
 use Rattle.diff_graph.specs.declared.lit.Lit.{Lit}
 use Rattle.diff_tables.specs.Solutions.{AreLeast, valuation_of}
 use Rattle.std.specs.Prelude.{ℤ}
@@ -36,7 +37,8 @@ use Rattle.ot_words.specs.Words.{most_questions}
 use Rattle.ot_prove.proofs.Leads.{literals_lead}
 
 -- an answer that is a level, where it is no want and only one level comes
-pub level_is : (level : Level) → IsWant (Ok level) ⊎ (◌≡◌ {A = Result Level JudgeError} (Ok level) (Ok Tp2)) → level ≡ Tp2
+pub level_is : (level : Level)
+    → IsWant (Ok level) ⊎ (◌≡◌ {A = Result Level JudgeError} (Ok level) (Ok Tp2)) → level ≡ Tp2
 level_is level (inl (inl failed)) = cc
 level_is level (inl (inr wanting)) = cc
 level_is level (inr same) = cc
@@ -49,7 +51,8 @@ never_refused offset why (inl (inr wanting)) = cc
 never_refused offset why (inr same) = cc
 
 -- a function that has both properties is broken nowhere
-never_broken : (f : Function) → HasTp1 f → HasTp2 f → (level : Level) (d : List Cell) (ops : List Op) → Breaks f level d ops → ⊥
+never_broken : (f : Function) → HasTp1 f → HasTp2 f → (level : Level) (d : List Cell) (ops : List Op)
+    → Breaks f level d ops → ⊥
 never_broken f tp1 tp2 Tp1 d ops (a, b, are, concurrent, apart) =
     apart (tp1 d a b (subst (λ (l : List Op). AreConcurrent f d l) are concurrent))
 never_broken f tp1 tp2 Tp2 d ops (a, b, c, are, concurrent, apart) =
@@ -66,7 +69,8 @@ pub record IsShownBy (f : Function) (bytes : List ℕ) : Type 0 where
 -- where a verdict is told as a proof, its bytes are a short certificate, found within the budget
 shown_verdict :
     (f : Function) (bytes : List ℕ) (verdict : Verdict) → IsDecidedAs f Tp2 most_questions verdict
-    → (most_questions ≤ most_questions → IsVerdictWithin (limit_of files.Certificate) verdict) → TellsVerdict f verdict (Proved bytes)
+    → (most_questions ≤ most_questions → IsVerdictWithin (limit_of files.Certificate) verdict)
+    → TellsVerdict f verdict (Proved bytes)
     → IsShownBy f bytes
 shown_verdict f bytes (verdicts.Yes certificate asked) decided within tells =
     let same : bytes ≡ certificate.items = cc in
@@ -91,7 +95,8 @@ pub record HasTooMany (f : Function) (r : Reply) : Type 0 where
   pub many : most_questions < count_in lists
 
 module _ (broken_there :
-    (f : Function) (ob : ObName) (w : List Lit) (why : Why) (values : List ℤ) → IsTrue (is_valid f) → IsTrue (is_obligation f.head ob)
+    (f : Function) (ob : ObName) (w : List Lit) (why : Why) (values : List ℤ) → IsTrue (is_valid f)
+    → IsTrue (is_obligation f.head ob)
     → LeadTo why (plan_of f ob) w → AreLeast w (floors_of ob) values
     → Breaks f (level_of ob) (document_at (valuation_of values) why) (ops_at (valuation_of values) ob))
     (f : Function) (valid : IsTrue (is_valid f)) (tp1 : HasTp1 f) (tp2 : HasTp2 f) where
@@ -104,8 +109,10 @@ module _ (broken_there :
       absurd (never_broken f tp1 tp2 (level_of ob) _ _
       (broken_there f ob (answered_by answers.items) why tells.1.values valid refuted.listed
       (literals_lead why (plan_of f ob) answers.items refuted.way) tells.1.least))
-  other_verdict r verdicts.Spent decided tells other = record { is = tells; lists = decided.0; asked = decided.1; many = decided.2 }
+  other_verdict r verdicts.Spent decided tells other =
+      record { is = tells; lists = decided.0; asked = decided.1; many = decided.2 }
 
   -- whatever is not proved has too many questions
-  pub too_many : (r : Reply) → IsReplyToProof f Tp2 most_questions r → ((bytes : List ℕ) → r ≢ Proved bytes) → HasTooMany f r
+  pub too_many : (r : Reply) → IsReplyToProof f Tp2 most_questions r
+      → ((bytes : List ℕ) → r ≢ Proved bytes) → HasTooMany f r
   too_many r reply other = other_verdict r reply.0 reply.1 reply.3 other

@@ -16,11 +16,13 @@ Is d e = outcome_of e ≡ Document d
 tail_of : (d : List Cell) (e : End) (ends : List End) → All (Is d) (e ∷ ends) → All (Is d) ends
 tail_of d e ends all k other below = all (suc k) other (omega (arith, below))
 
-outcomes_are : (d : List Cell) (ends : List End) → All (Is d) ends → AllByRecursion (λ o. o ≡ Document d) (map outcome_of ends)
+outcomes_are : (d : List Cell) (ends : List End) → All (Is d) ends
+    → AllByRecursion (λ o. o ≡ Document d) (map outcome_of ends)
 outcomes_are d [] all = tt
 outcomes_are d (e ∷ ends) all = (all 0 e (omega arith), outcomes_are d ends (tail_of d e ends all))
 
-ends_are : (d : List Cell) (ends : List End) → AllByRecursion (λ o. o ≡ Document d) (map outcome_of ends) → All (Is d) ends
+ends_are : (d : List Cell) (ends : List End)
+    → AllByRecursion (λ o. o ≡ Document d) (map outcome_of ends) → All (Is d) ends
 ends_are d [] all = All-nil (Is d)
 ends_are d (e ∷ ends) all = All-cons (Is d) e ends all.0 (ends_are d ends all.1)
 
@@ -34,7 +36,8 @@ pub one_end :
     → All (Is d) ends ↔ HaveOneEnd (map outcome_of ends)
 one_end ends d same = (
   λ all. (d, outcomes_are d ends all),
-  λ one. ends_are d ends (subst (λ x. AllByRecursion (λ o. o ≡ Document x) (map outcome_of ends)) (sym (same one.0 one.1)) one.1),
+  λ one. ends_are d ends
+      (subst (λ x. AllByRecursion (λ o. o ≡ Document x) (map outcome_of ends)) (sym (same one.0 one.1)) one.1),
 )
 
 -- the first end is a document

@@ -20,15 +20,19 @@ kept_since old new still =
     })
 
 pub reading_on : (one two three : Reads) → IsSameReading one two → IsSameReading two three → IsSameReading one three
-reading_on one two three a b = record { same_name = b.same_name ∙ a.same_name; same_before = b.same_before ∙ a.same_before }
+reading_on one two three a b =
+    record { same_name = b.same_name ∙ a.same_name; same_before = b.same_before ∙ a.same_before }
 
 -- what two calls do not change
 pub unchanged_on :
-    {S : Type 0} {holds : S → List ℕ → Option (List ℕ)} {offered : S → List ℕ → Type 0} {faults : S → ℕ} (one two three : S)
-    → Unchanged holds offered faults one two → Unchanged holds offered faults two three → Unchanged holds offered faults one three
+    {S : Type 0} {holds : S → List ℕ → Option (List ℕ)} {offered : S → List ℕ → Type 0}
+    {faults : S → ℕ} (one two three : S)
+    → Unchanged holds offered faults one two → Unchanged holds offered faults two three
+    → Unchanged holds offered faults one three
 unchanged_on one two three a b =
     record {
       same_files = λ n. b.same_files n ∙ a.same_files n;
-      same_offer = λ n. (λ h. (b.same_offer n).0 ((a.same_offer n).0 h), λ h. (a.same_offer n).1 ((b.same_offer n).1 h));
+      same_offer =
+          λ n. (λ h. (b.same_offer n).0 ((a.same_offer n).0 h), λ h. (a.same_offer n).1 ((b.same_offer n).1 h));
       more_faults = omega (arith, a.more_faults, b.more_faults);
     }

@@ -40,22 +40,27 @@ whole_keeps hub whole keeps (To x) = keeps x
 up_keeps : (hub : HubData) (c : ℕ) (messages : List PlacedOp) → StepKeeps hub (up_with hub c messages)
 up_keeps hub c [] = tt
 up_keeps hub c (message ∷ others) =
-    whole_keeps hub (λ (s : Server). record hub { server = s; clients = slice_set hub.clients (c - 1) (sent (client_of hub c)) })
-    (λ s. record { is_open = refl; function = refl; clients = length-set _ _ _ }) (server_step hub.function c message hub.server)
+    whole_keeps hub
+    (λ (s : Server). record hub { server = s; clients = slice_set hub.clients (c - 1) (sent (client_of hub c)) })
+    (λ s. record { is_open = refl; function = refl; clients = length-set _ _ _ })
+    (server_step hub.function c message hub.server)
 
 down_keeps : (hub : HubData) (c : ℕ) (entry : Option Entry) → StepKeeps hub (down_with hub c entry)
 down_keeps hub c None = tt
 down_keeps hub c (Some entry) =
     whole_keeps hub (λ (x : Client). record hub { clients = slice_set hub.clients (c - 1) x })
-    (λ x. record { is_open = refl; function = refl; clients = length-set _ _ _ }) (client_step hub.function c entry (client_of hub c))
+    (λ x. record { is_open = refl; function = refl; clients = length-set _ _ _ })
+    (client_step hub.function c entry (client_of hub c))
 
 moved_keeps :
-    (hub new : HubData) (c : ℕ) (step : Step HubData) (m : Moved) → StepKeeps hub step → HasMoved hub new c step (Ok m) → Keeps hub new
+    (hub new : HubData) (c : ℕ) (step : Step HubData) (m : Moved) → StepKeeps hub step
+    → HasMoved hub new c step (Ok m) → Keeps hub new
 moved_keeps hub new c step moved.Done keeps done = subst (λ (s : Step HubData). StepKeeps hub s) done.1 keeps
 moved_keeps hub new c step moved.Nothing keeps done = subst (λ (h : HubData). Keeps hub h) (sym done.2) (same_keeps hub)
 
 pub done_keeps : (hub new : HubData) (event : HubEvent) → IsDone hub event new → Keeps hub new
 done_keeps hub new (events.Edit c o) done =
-    subst (λ (h : HubData). Keeps hub h) (sym done.2) (record { is_open = refl; function = refl; clients = length-set _ _ _ })
+    subst (λ (h : HubData). Keeps hub h) (sym done.2)
+    (record { is_open = refl; function = refl; clients = length-set _ _ _ })
 done_keeps hub new (events.Up c) (m, done) = moved_keeps hub new c (up_step hub c) m (up_keeps hub c _) done
 done_keeps hub new (events.Down c) (m, done) = moved_keeps hub new c (down_step hub c) m (down_keeps hub c _) done

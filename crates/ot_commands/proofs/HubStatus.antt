@@ -13,7 +13,8 @@ use Rattle.ot_replies.specs.Texts.{status_of}
 use Rattle.ot_commands.specs.Hub.{IsRefusedHubEvent, TellsNotEdited, TellsNotMoved}
 
 -- an edit that is refused has status 4, or 9
-not_edited_status : (i : ℕ) (reason : Edit) (r : Reply) → TellsNotEdited i reason r → (status_of r ≡ 4) ⊎ (status_of r ≡ 9)
+not_edited_status : (i : ℕ) (reason : Edit) (r : Reply) → TellsNotEdited i reason r
+    → (status_of r ≡ 4) ⊎ (status_of r ≡ 9)
 not_edited_status i edits.NoSite r tells = inl (ap (λ x. status_of x) tells)
 not_edited_status i edits.WrongSite r tells = inl (ap (λ x. status_of x) tells)
 not_edited_status i edits.WrongKind r tells = inl (ap (λ x. status_of x) tells)
@@ -41,14 +42,17 @@ not_moved-other i moves.Stuck r tells = λ e. let one = ap (λ x. status_of x) t
 not_moved-other i moves.NoMemory r tells = absurd tells
 
 pub not_moved-steady :
-    (i : ℕ) (reason : Move) (r : Reply) → ◌≢◌ {A = Result Moved Move} (Err reason) (Err moves.Stuck) → TellsNotMoved i reason r
+    (i : ℕ) (reason : Move) (r : Reply) → ◌≢◌ {A = Result Moved Move} (Err reason) (Err moves.Stuck)
+    → TellsNotMoved i reason r
     → status_of r ≢ 1
-not_moved-steady i moves.NoSite r never tells = λ e. let four = ap (λ x. status_of x) tells in omega (arith, sym four ∙ e)
+not_moved-steady i moves.NoSite r never tells = λ e. let four = ap (λ x. status_of x) tells in
+    omega (arith, sym four ∙ e)
 not_moved-steady i moves.Stuck r never tells = absurd (never refl)
 not_moved-steady i moves.NoMemory r never tells = absurd tells
 
 -- no event that is refused has the status of a refused function
-pub refused_other : (hub : HubData) (i : ℕ) (event : HubEvent) (r : Reply) → IsRefusedHubEvent hub i event r → status_of r ≢ 3
+pub refused_other : (hub : HubData) (i : ℕ) (event : HubEvent) (r : Reply)
+    → IsRefusedHubEvent hub i event r → status_of r ≢ 3
 refused_other hub i (events.Edit c o) r (reason, new, refused, tells) = not_edited-other i reason r tells
 refused_other hub i (events.Up c) r (reason, new, refused, tells) = not_moved-other i reason r tells
 refused_other hub i (events.Down c) r (reason, new, refused, tells) = not_moved-other i reason r tells

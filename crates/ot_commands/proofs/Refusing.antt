@@ -47,16 +47,21 @@ pub not_made-steady : (i : ℕ) (reason : NotMade) (r : Reply) → TellsNotMade 
 not_made-steady i makes.NoSite r tells = other r (EventRefused i why.Site) tells (λ is. absurd (omega (arith, is)))
 not_made-steady i makes.WrongSite r tells = other r (EventRefused i why.Owner) tells (λ is. absurd (omega (arith, is)))
 not_made-steady i makes.WrongKind r tells = other r (EventRefused i why.Kind) tells (λ is. absurd (omega (arith, is)))
-not_made-steady i makes.NotEnabled r tells = other r (EventRefused i why.Enabled) tells (λ is. absurd (omega (arith, is)))
-not_made-steady i makes.Full r tells = other r (CaseRefused (faults.Limit names.Ops)) tells (λ is. absurd (omega (arith, is)))
+not_made-steady i makes.NotEnabled r tells =
+    other r (EventRefused i why.Enabled) tells (λ is. absurd (omega (arith, is)))
+not_made-steady i makes.Full r tells =
+    other r (CaseRefused (faults.Limit names.Ops)) tells (λ is. absurd (omega (arith, is)))
 not_made-steady i makes.NoMemory r tells = absurd tells
 
 -- a site is stuck only where the operation is not taken for that reason
 pub not_taken-steady :
-    (i : ℕ) (reason : NotTaken) (r : Reply) → ((o : ℕ) → ◌≡◌ {A = Result Took NotTaken} (Err reason) (Err (takes.Stuck o)) → ⊥)
+    (i : ℕ) (reason : NotTaken) (r : Reply)
+    → ((o : ℕ) → ◌≡◌ {A = Result Took NotTaken} (Err reason) (Err (takes.Stuck o)) → ⊥)
     → TellsNotTaken i reason r → status_of r ≢ 1
-not_taken-steady i takes.NoSite r never tells = other r (EventRefused i why.Site) tells (λ is. absurd (omega (arith, is)))
-not_taken-steady i takes.NoOp r never tells = other r (EventRefused i why.Number) tells (λ is. absurd (omega (arith, is)))
+not_taken-steady i takes.NoSite r never tells =
+    other r (EventRefused i why.Site) tells (λ is. absurd (omega (arith, is)))
+not_taken-steady i takes.NoOp r never tells =
+    other r (EventRefused i why.Number) tells (λ is. absurd (omega (arith, is)))
 not_taken-steady i (takes.Stuck o) r never tells = absurd (never o refl)
 not_taken-steady i takes.Spent r never tells = other r Spent tells (λ is. absurd (omega (arith, is)))
 not_taken-steady i takes.NoMemory r never tells = absurd tells

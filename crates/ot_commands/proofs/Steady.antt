@@ -1,8 +1,9 @@
 -- A reply that is refused before a session is run has another status than 1, and what words ask is what was read.
-use Rattle.std.proofs.Common.{refl, ◌≡◌, ◌≢◌, ℕ, ◌<◌, List, Option, Some, Result, Ok, sym, ap, ◌∙◌, subst, inl, inr, arith}
+use Rattle.std.proofs.Common.{refl, ◌≡◌, ◌≢◌, ℕ, ◌<◌, List, Option, Some, Result, Ok, sym, ap, ◌∙◌, subst, inl, inr}
+use Rattle.std.proofs.Common.{arith}
 use Rattle.std.specs.Prelude.{IfSome}
 use Rattle.fn_rules.specs.Functions.{Function}
-use Rattle.fn_moves.specs.declared.fault.TextFault.{TextFault}
+use Rattle.fn_tokens.specs.declared.fault.TextFault.{TextFault}
 use Rattle.fn_grammar.specs.Grammar.{IsTextOf}
 use Rattle.fn_text.specs.Reading.{function_in}
 use Rattle.ot_replies.specs.declared.reply.FileKind.{FileKind}
@@ -27,7 +28,8 @@ named_so r named status same says more is =
 pub too_long-steady : (kind : FileKind) (told : Option (List ℕ)) (r : Reply) → IsTooLong kind told r → status_of r ≢ 1
 too_long-steady kind told r h = named_so r (TooLong kind) 9 h.1 refl (omega arith)
 
-pub function_refused-steady : (subject : Subject) (told : Option (List ℕ)) (r : Reply) → IsFunctionRefusal subject told r → status_of r ≢ 1
+pub function_refused-steady : (subject : Subject) (told : Option (List ℕ)) (r : Reply)
+    → IsFunctionRefusal subject told r → status_of r ≢ 1
 function_refused-steady subject told r (inl h) = too_long-steady files.Function told r h
 function_refused-steady subject told r (inr h) = named_so r (FunctionRefused subject h.0) 3 h.2 refl (omega arith)
 
@@ -36,12 +38,14 @@ ok_is f g same = cc
 
 -- a file is read as one function
 pub same_function :
-    (told : Option (List ℕ)) (f g : Function) (bytes : List ℕ) → IsReadAs (Ok f) told → told ≡ Some bytes → function_in bytes ≡ Ok g
+    (told : Option (List ℕ)) (f g : Function) (bytes : List ℕ) → IsReadAs (Ok f) told → told ≡ Some bytes
+    → function_in bytes ≡ Ok g
     → g ≡ f
 same_function told f g bytes read is is_g = ok_is g f (sym is_g ∙ (read bytes is).1)
 
 -- words that ask for a command have the reply of that command, which is steady
-pub steady_asked : (words : List (List ℕ)) (holds : List ℕ → Option (List ℕ)) (r : Reply) (asked : Asked) → asked_by words ≡ Some asked
+pub steady_asked : (words : List (List ℕ)) (holds : List ℕ → Option (List ℕ)) (r : Reply) (asked : Asked)
+    → asked_by words ≡ Some asked
     → AreSteady words holds r → IsSteadyReply holds asked r
 steady_asked words holds r asked named are =
     subst (λ (o : Option Asked). IfSome o (λ a. IsSteadyReply holds a r)) named are

@@ -1,7 +1,7 @@
 -- Which reply a function gets whose guards are looked at.
 use Rattle.std.specs.Prelude.{◌≡◌, ℕ, List}
 use Rattle.fn_rules.specs.Functions.{Function}
-use Rattle.audit_answers.specs.declared.audits.Audit.{Audit}
+use Rattle.ot_audit.specs.declared.audits.Audit.{Audit}
 use Rattle.ot_audit.specs.Audits.{IsAuditedAs}
 use Rattle.ot_replies.specs.declared.reply.Reply.{Reply}
 use Rattle.ot_replies.specs.declared.reply.Reply.TheVariants.{Audited}

@@ -1,7 +1,7 @@
 -- Which reply the text of a function gets that is to be explained: why the function has the properties of a level,
 -- where it breaks one, that neither search decides it, or why there is no function.
 use Rattle.std.specs.Prelude.{◌≡◌, ℕ, Bool, List, [], length, Option, Some, None, Result, Ok, Err}
-use Rattle.fn_moves.specs.declared.fault.TextFault.{TextFault}
+use Rattle.fn_tokens.specs.declared.fault.TextFault.{TextFault}
 use Rattle.fn_rules.specs.declared.function.Level.{Level}
 use Rattle.fn_rules.specs.declared.function.ObName.{ObName}
 use Rattle.fn_rules.specs.Functions.{Function}

@@ -9,7 +9,7 @@ use Rattle.ot_replies.specs.declared.reply.Reply.TheVariants.{Reversed, Unlike}
 use Rattle.ot_replies.specs.declared.reply.Subject.TheVariants.{Second}
 use Rattle.ot_replies.specs.Limits.{limit_of}
 use Rattle.ot_replies.specs.ReversalTexts.{reversal_status, reversal_text, unlike_text}
-use Rattle.audit_answers.specs.declared.back.Back.{Back}
+use Rattle.ot_audit.specs.declared.back.Back.{Back}
 use Rattle.ot_reverse.specs.Answers.{IsReversedAs}
 use Rattle.ot_reverse.specs.Reversal.{AreAlike}
 use Rattle.ot_words.specs.Commands.{Reverse}

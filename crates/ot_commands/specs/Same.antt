@@ -1,7 +1,7 @@
 -- Which reply two functions get that are compared.
 use Rattle.std.specs.Prelude.{◌≡◌, ℕ, List, Option}
 use Rattle.fn_rules.specs.Functions.{Function}
-use Rattle.audit_answers.specs.declared.audits.Same.{Same}
+use Rattle.ot_audit.specs.declared.audits.Same.{Same}
 use Rattle.ot_audit.specs.Audits.{IsComparedAs}
 use Rattle.ot_replies.specs.declared.reply.Reply.{Reply}
 use Rattle.ot_replies.specs.declared.reply.Reply.TheVariants.{Compared}

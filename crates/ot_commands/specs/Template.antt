@@ -6,7 +6,7 @@ use Rattle.fn_rules.specs.declared.function.Level.TheVariants.{Tp1, Tp2}
 use Rattle.fn_grammar.specs.Print.{printed}
 use Rattle.fn_text.specs.Reading.{function_in}
 use Rattle.ot_heads.specs.Heads.{inserts_and_deletes_on_plain}
-use Rattle.ot_templates.specs.Templates.{template_of}
+use Rattle.ot_heads.specs.Templates.{template_of}
 use Rattle.ot_replies.specs.declared.reply.Reply.{Reply}
 use Rattle.ot_replies.specs.declared.reply.Reply.TheVariants.{NoTemplate, Templated}
 use Rattle.ot_commands.specs.Facts.{Facts, NoFile, NothingMore}

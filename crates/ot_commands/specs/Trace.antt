@@ -10,13 +10,13 @@ use Rattle.case_json.specs.Cases.{trial_in}
 use Rattle.case_json.specs.Hubs.{hub_script_in}
 use Rattle.case_json.specs.Json.{json_in}
 use Rattle.case_json.specs.Scripts.{script_in}
-use Rattle.case_paths.specs.declared.line.LineColumn.{LineColumn}
-use Rattle.case_paths.specs.declared.path.EventCause.{EventCause}
-use Rattle.case_paths.specs.declared.path.EventCause.TheVariants as causes
-use Rattle.case_paths.specs.declared.path.Layout.{Layout}
-use Rattle.case_paths.specs.declared.path.Layout.TheVariants as layouts
-use Rattle.case_paths.specs.Paths.{event_path_of, path_of}
-use Rattle.case_paths.specs.PathTexts.{cause_lines, fault_lines}
+use Rattle.case_json.specs.declared.line.LineColumn.{LineColumn}
+use Rattle.case_json.specs.declared.path.EventCause.{EventCause}
+use Rattle.case_json.specs.declared.path.EventCause.TheVariants as causes
+use Rattle.case_json.specs.declared.path.Layout.{Layout}
+use Rattle.case_json.specs.declared.path.Layout.TheVariants as layouts
+use Rattle.case_json.specs.Paths.{event_path_of, path_of}
+use Rattle.case_json.specs.PathTexts.{cause_lines, fault_lines}
 use Rattle.ot_replies.specs.declared.reply.FileKind.TheVariants as files
 use Rattle.ot_replies.specs.declared.reply.Reply.{Reply}
 use Rattle.ot_replies.specs.declared.reply.Reply.TheVariants.{CaseRefused, EventRefused, Traced}
@@ -61,8 +61,8 @@ SaysWhere events bytes (EventRefused i why) lines =
     (at : Option LineColumn) × (lines ≡ cause_lines (event_path_of i (cause_of why)) at (cause_of why))
 SaysWhere events bytes end lines = lines ≡ []
 
--- In what follows `told` is what is told of a file that is read so, and `end` the reply of the command that runs it. Of a
--- file that is refused nothing is told.
+-- In what follows `told` is what is told of a file that is read so, and `end` the reply of the command that
+-- runs it. Of a file that is refused nothing is told.
 
 -- a case: its orders, step by step, and what they come to
 abbrev pub TellsCase : Function → Result Trial CaseFault → List ℕ → Reply → Type 0

@@ -1,28 +1,15 @@
-//! The commands: each loads its files from a shelf, judges them in their order, and gives a reply.
+//! The commands: each loads its files from a shelf, judges them in their order, and gives a reply (docs/STATUS.md).
 //!
-//! `prove FN` writes a certificate of the function, or a counterexample, or says that the questions are too many.
-//! `settle FN` writes a proof with lemmas of the function, or a counterexample, or says that it found neither.
-//! `explain FN` says why the function has the properties, or where it breaks one, or why its text is refused.
-//! `check FN CERT` says whether the certificate shows that the transformation function has TP1, or TP1 and
-//! TP2, and otherwise at which byte and why it is refused.
-//! `integrate FN CASE` integrates the operations of a case in each of its orders and compares the
-//! documents.
-//! `replay FN SESSION` runs the events of a session, and compares sites that have integrated the same operations.
-//! `hub FN HUB` runs the events of a hub, and compares its clients with its server.
-//! `trace FN FILE` tells what happens in a case, a session or a hub step by step, and then what the command says that
-//! runs it.
-//! `audit FN` tells which cases of a function are ever taken, and which of its blocks are ever open.
-//! `same F G` tells whether two functions agree, or where they do not.
-//! `reverse F E` tells whether a second function takes back what the first one makes, or where it does not.
-//! `least FN` looks for the shortest document on which a function breaks a property, and certifies that none is
-//! shorter. `bound FN CERT` says whether a certificate shows that no document of fewer cells breaks a property.
-//! `confirm FN PROOF` says the same as `check` of a proof with lemmas.
-//! `template MODE KIND..` prints a function to begin
-//! with, or says that none has both properties. `drill N` generates a workload, and goes the
-//! whole way from its function to its sites.
+//! A command has one file, as `prove.rt`, and one module, as `specs/Prove`. What opens files in their order stands
+//! once: `one_file.rt`, `two_files.rt` and `case_file.rt` (a function and a case, a session or a hub),
+//! `two_functions.rt`, `certificate.rt` (which is read as it is judged). `load.rt` reads files within their limits,
+//! `halt.rt` runs events up to the first that halts them. A module says which reply comes, and ends with its facts
+//! (`specs/Facts`): the files that the command opens, the reply that it gets then, and where its status is never 1.
+//! `Replies` has the table of all facts, `Given` says them of the bytes that the shelf's calls gave.
 //!
-//! The crate above relies on one call a command, whose clauses say which reply comes, of what the shelf tells and of
-//! what its calls gave. What is said of a command stands in one module of `specs/`, which is named as its file.
+//! The crate above relies on one call a command. Its clauses are `ok` (which reply comes, of what the shelf tells),
+//! `given` (of what its calls gave), `steady` (where the status is not 1), `shelf` and `unchanged` (faults, what the
+//! shelf keeps).
 #![tactic(auto)]
 
 pub mod audit;

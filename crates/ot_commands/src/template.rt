@@ -3,7 +3,7 @@
 ghost use Rattle.std.specs.Prelude.{◌≡◌, true, IfOk, Ok};
 ghost use Rattle.fn_grammar.specs.Print.{printed};
 ghost use Rattle.fn_text.specs.Reading.{function_in};
-ghost use Rattle.ot_templates.specs.Templates.{has_kind, template_of};
+ghost use Rattle.ot_heads.specs.Templates.{has_kind, template_of};
 ghost use Rattle.ot_commands.specs.Template.{IsReplyToTemplate, has_none};
 
 use fn_rules::{Head, Level};
@@ -30,7 +30,7 @@ fn text(alloc: Global, head: Head) -> Result<Vec<u8>, NoMemory>
     ensures text { IfOk result (λ text. text.items ≡ printed (template_of head)) }
     ensures reads_back { IfOk result (λ text. function_in text.items ≡ Ok (template_of head)) }
 {
-    let rules = ot_templates::template(alloc, head)?;
+    let rules = ot_heads::template(alloc, head)?;
     print(alloc, &rules)
 }
 

@@ -24,10 +24,8 @@ use crate::load::Stop;
 use crate::replay::run_script;
 use crate::two_files::reply_to_both;
 use case_json::{
-    CaseError, CaseFault, HubScript, Script, Trial, hub_read, script_read, trial_read,
-};
-use case_paths::{
-    EventCause, FaultPath, Layout, LineColumn, event_path, fault_path, line_column, value_offset,
+    CaseError, CaseFault, EventCause, FaultPath, HubScript, Layout, LineColumn, Script, Trial,
+    event_path, fault_path, hub_read, line_column, script_read, trial_read, value_offset,
     write_cause, write_fault,
 };
 use fn_rules::Rules;

@@ -5,7 +5,7 @@ use Rattle.std.specs.List.{list_all}
 use Rattle.fn_rules.specs.declared.function.ObName.{ObName}
 use Rattle.fn_rules.specs.Functions.{Function}
 use Rattle.start_laws.specs.Starts.{compare_starts}
-use Rattle.marked_goals.specs.Marking.{marked_plan}
+use Rattle.start_laws.specs.Marking.{marked_plan}
 use Rattle.proof_sections.specs.Judgement.{Judges, sections_judged}
 use Rattle.proof_sections.proofs.Sections.{sections_none}
 
@@ -14,7 +14,8 @@ both_true true b both = (refl, both)
 both_true false b both = absurd (cc)
 
 -- where all pass a test, the first and the others do
-pub all_parts : (p : ObName → Bool) (name : ObName) (names : List ObName) → list_all p (name ∷ names) ≡ true → (p name ≡ true) × (list_all p names ≡ true)
+pub all_parts : (p : ObName → Bool) (name : ObName) (names : List ObName) → list_all p (name ∷ names) ≡ true
+    → (p name ≡ true) × (list_all p names ≡ true)
 all_parts p name names all = both_true (p name) (list_all p names) all
 
 -- no obligations

@@ -12,29 +12,32 @@ use Rattle.ot_questions.specs.declared.why.Why.{Why}
 use Rattle.ot_questions.specs.Obligation.{plan_of}
 use Rattle.ot_questions.specs.Meaning.{AllHold}
 use Rattle.start_laws.specs.Starts.{Start, compare_starts, meaning}
-use Rattle.marked_goals.specs.Marking.{marked_plan}
+use Rattle.start_laws.specs.Marking.{marked_plan}
 use Rattle.proof_sections.specs.Judgement.{proof_judged}
 use Rattle.ot_confirm.specs.Judgement.{judgement_of}
 use Rattle.ot_confirm.proofs.Listed.{all_parts}
 
 module _ (f : Function) (same : (ob : ObName) → unmarked (marked_plan f ob) ≡ plan_of f ob) where
   are_marked :
-      ((ob : ObName) → IsTrue (is_obligation f.head ob) → IsMarkedBy (meaning f) (marked_plan f ob)) → (obs : List ObName)
-      → list_all (is_obligation f.head) obs ≡ true → AllByRecursion (λ ob. IsMarkedBy (meaning f) (marked_plan f ob)) obs
+      ((ob : ObName) → IsTrue (is_obligation f.head ob) → IsMarkedBy (meaning f) (marked_plan f ob))
+      → (obs : List ObName)
+      → list_all (is_obligation f.head) obs ≡ true
+      → AllByRecursion (λ ob. IsMarkedBy (meaning f) (marked_plan f ob)) obs
   are_marked marked [] listed = tt
   are_marked marked (ob ∷ obs) listed =
       let both = all_parts (is_obligation f.head) ob obs listed in
       (marked ob both.0, are_marked marked obs both.1)
 
-  all_hold : (obs : List ObName) → AllByRecursion (λ ob. HoldsUnder [] (unmarked (marked_plan f ob))) obs → AllHold f obs
+  all_hold : (obs : List ObName)
+      → AllByRecursion (λ ob. HoldsUnder [] (unmarked (marked_plan f ob))) obs → AllHold f obs
   all_hold [] hold = tt
   all_hold (ob ∷ obs) hold =
       (λ v zero. subst (λ (p : Plan Why). value p v ≡ true) (same ob) (hold.0 v tt), all_hold obs hold.1)
 
   -- where bytes are judged to be a proof at a level, all plans of the level hold
   pub proof_shows :
-      ((compare : Comparison Start) (meant : Start → Plan Why) (plan : ObName → MarkedPlan Start Why) (names : Level → List ObName)
-      (bytes : List ℕ) (level : Level) → IsLawful compare meant
+      ((compare : Comparison Start) (meant : Start → Plan Why) (plan : ObName → MarkedPlan Start Why) (names : Level
+      → List ObName) (bytes : List ℕ) (level : Level) → IsLawful compare meant
       → AllByRecursion (λ name. IsMarkedBy meant (plan name)) (names level)
       → proof_judged compare plan names bytes ≡ Ok level
       → AllByRecursion (λ name. HoldsUnder [] (unmarked (plan name))) (names level))

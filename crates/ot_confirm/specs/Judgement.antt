@@ -5,7 +5,7 @@ use Rattle.fn_rules.specs.declared.function.Level.{Level}
 use Rattle.fn_rules.specs.Functions.{Function}
 use Rattle.fn_rules.specs.Obligations.{obligations_of}
 use Rattle.start_laws.specs.Starts.{compare_starts}
-use Rattle.marked_goals.specs.Marking.{marked_plan}
+use Rattle.start_laws.specs.Marking.{marked_plan}
 use Rattle.proof_sections.specs.declared.refusal.ConfirmError.{ConfirmError}
 use Rattle.proof_sections.specs.Judgement.{proof_judged}
 

@@ -4,7 +4,7 @@ use Rattle.fn_rules.specs.declared.function.Level.{Level}
 use Rattle.fn_rules.specs.Functions.{Function}
 use Rattle.fn_rules.specs.Obligations.{obligations_of}
 use Rattle.start_laws.specs.Starts.{compare_starts}
-use Rattle.marked_goals.specs.Marking.{marked_plan}
+use Rattle.start_laws.specs.Marking.{marked_plan}
 use Rattle.proof_sections.specs.Spelled as spelled
 
 -- the bytes are a proof of the function at the level: the header, for each obligation in order its line, a tree that

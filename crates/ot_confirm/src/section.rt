@@ -4,7 +4,7 @@ ghost use Rattle.std.specs.List.{list_all};
 ghost use Rattle.fn_rules.specs.Obligations.{is_obligation};
 ghost use Rattle.fn_rules.specs.Rules.{function_of};
 ghost use Rattle.start_laws.specs.Starts.{compare_starts};
-ghost use Rattle.marked_goals.specs.Marking.{marked_plan};
+ghost use Rattle.start_laws.specs.Marking.{marked_plan};
 ghost use Rattle.proof_sections.specs.Judgement.{Judges, opened_tree, section_judged, sections_judged, tree_judged};
 
 use bumpalo::Bump;

@@ -7,12 +7,11 @@ ghost use Rattle.fn_rules.specs.Properties.{HasTp1, HasTp2};
 ghost use Rattle.ot_confirm.specs.Judgement.{judgement_of};
 
 use fn_rules::obligations_are_those_of_the_kinds;
-use marked_goals::marked_plans_are_plans;
 use ot_integrate::both_properties_give_one_outcome;
 use ot_questions::{Why, pair_plans_mean_tp1, triple_plans_mean_tp2};
 use ot_starts::Begun;
 use proof_sections::accepted_proofs_hold;
-use start_laws::starts_have_one_value;
+use start_laws::{marked_plans_are_plans, starts_have_one_value};
 
 /// A function that has a proof at level tp1 has the first property on every document, for all operations of its kinds
 /// that meet what it assumes. One that has a proof at level tp2 has both, so any two orders of concurrent operations

@@ -8,11 +8,11 @@ ghost use Rattle.ot_confirm.specs.Certified.{under_proof_header};
 ghost use Rattle.ot_confirm.specs.Judgement.{judgement_of};
 ghost use Rattle.ot_confirm.specs.Proofs.{IsProofOf};
 
-use marked_goals::marked_plans_are_plans;
 use ot_questions::Why;
 use ot_starts::Begun;
 use proof_sections::proofs_are_accepted_exactly;
 use proof_text::certificate_tokens_are_spelled_alike;
+use start_laws::marked_plans_are_plans;
 
 /// Bytes are accepted as a proof of a function at a level exactly where they are one: the header of the level, for each
 /// obligation in order its line, the tokens of a tree that shows its plan and a newline, and the last line.

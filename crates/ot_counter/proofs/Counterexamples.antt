@@ -1,6 +1,7 @@
 -- The least values of answers that lead to an end that fails name operations that break the property on the
 -- document that shows the cause.
-use Rattle.std.proofs.Common.{◌≡◌, ◌≢◌, ◌↔◌, ℕ, ◌<◌, lit<, ℤ, pos, negsuc, ◌≤ℤ◌, Some, List, [], ◌∷◌, length, IsTrue, refl, arith}
+use Rattle.std.proofs.Common.{◌≡◌, ◌≢◌, ◌↔◌, ℕ, ◌<◌, lit<, ℤ, pos, negsuc, ◌≤ℤ◌, Some, List, [], ◌∷◌, length, IsTrue}
+use Rattle.std.proofs.Common.{refl, arith}
 use Rattle.std.specs.Prelude.{unsigned_abs}
 use Rattle.std.proofs.lemmas.Int.{ints}
 use Rattle.diff_graph.specs.declared.lit.Lit.{Lit}
@@ -34,7 +35,8 @@ use Rattle.ot_counter.proofs.Shown.{IsFresh, fresh_at, length-document_at, docum
 
 -- what is said of the ends of plans at valuations
 abbrev pub PairFailsBy : Type 0
-PairFailsBy = (f : Function) (k l : Kind) (v : ℕ → ℤ) (d : List Cell) (a b : Op) (why : Why) → NamesPair f k l v (length d) a b
+PairFailsBy = (f : Function) (k l : Kind) (v : ℕ → ℤ) (d : List Cell) (a b : Op) (why : Why)
+    → NamesPair f k l v (length d) a b
     → end_of (plan_of f (Pair k l)) v ≡ Some why → ShowsCause d a b (v 2) why
     → AreConcurrent f d (a ∷ b ∷ []) × PairFails f d a b (v 2) why
 
@@ -45,7 +47,8 @@ TripleFailsBy = (f : Function) (k l m : Kind) (v : ℕ → ℤ) (d : List Cell) 
 
 -- a pair fails where it does not converge, and a triple where it does not commute
 abbrev pub PairBreaks : Type 0
-PairBreaks = (f : Function) (d : List Cell) (a b : Op) (i : ℤ) (why : Why) → PairFails f d a b i why → ConvergesAt f d a b → ⊥
+PairBreaks = (f : Function) (d : List Cell) (a b : Op) (i : ℤ) (why : Why) → PairFails f d a b i why
+    → ConvergesAt f d a b → ⊥
 
 abbrev pub TripleBreaks : Type 0
 TripleBreaks = (f : Function) (a b c : Op) (why : Why) → TripleFails f a b c why → CommutesAt f a b c → ⊥
@@ -82,7 +85,8 @@ module _ (stand : NamesStand) (why : Why) (values : List ℤ) (zero : valuation_
   cells_there : v 1 ≡ pos (length document)
   cells_there = cells_counted (v 1) (length document) cells (length-document_at v why)
 
-  stands_there : (k : Kind) (who : Who) → IsSmallAt values who → StandsForOperation v (sym_op k who) (op_at v (sym_op k who))
+  stands_there : (k : Kind) (who : Who) → IsSmallAt values who
+      → StandsForOperation v (sym_op k who) (op_at v (sym_op k who))
   stands_there k who small = stand v k who zero small.site (from_letter (v (char_name who)) small.ch_low)
 
   fresh_there : (k : Kind) (who : Who) → IsSmallAt values who → IsFresh (char_of (op_at v (sym_op k who)))
@@ -91,7 +95,8 @@ module _ (stand : NamesStand) (why : Why) (values : List ℤ) (zero : valuation_
 
   -- the two operations are concurrent, and break the property for the cause that the end names
   pub pair_broken :
-      PairFailsBy → (f : Function) (k l : Kind) → IsTrue (is_obligation f.head (Pair k l)) → PartsAreSmall (Pair k l) values
+      PairFailsBy → (f : Function) (k l : Kind) → IsTrue (is_obligation f.head (Pair k l))
+      → PartsAreSmall (Pair k l) values
       → end_of (plan_of f (Pair k l)) v ≡ Some why
       → AreConcurrent f document (op_at v (sym_op k A) ∷ op_at v (sym_op l B) ∷ [])
       × PairFails f document (op_at v (sym_op k A)) (op_at v (sym_op l B)) (v 2) why
@@ -107,11 +112,13 @@ module _ (stand : NamesStand) (why : Why) (values : List ℤ) (zero : valuation_
         second = stands_there l B second;
       })
       end
-      (document_shows v (op_at v (sym_op k A)) (op_at v (sym_op l B)) why (fresh_there k A first) (fresh_there l B second))
+      (document_shows v (op_at v (sym_op k A)) (op_at v (sym_op l B)) why (fresh_there k A first)
+      (fresh_there l B second))
 
   -- so are three operations, and they break the second property
   pub triple_broken :
-      TripleFailsBy → (f : Function) (k l m : Kind) → IsTrue (is_obligation f.head (Triple k l m)) → PartsAreSmall (Triple k l m) values
+      TripleFailsBy → (f : Function) (k l m : Kind) → IsTrue (is_obligation f.head (Triple k l m))
+      → PartsAreSmall (Triple k l m) values
       → end_of (plan_of f (Triple k l m)) v ≡ Some why
       → AreConcurrent f document (op_at v (sym_op k A) ∷ op_at v (sym_op l B) ∷ op_at v (sym_op m C) ∷ [])
       × TripleFails f (op_at v (sym_op k A)) (op_at v (sym_op l B)) (op_at v (sym_op m C)) why
@@ -128,16 +135,19 @@ module _ (stand : NamesStand) (why : Why) (values : List ℤ) (zero : valuation_
 
 -- least values have a length of the document and an index
 pub least_length :
-    (ob : ObName) (w : List Lit) (values : List ℤ) → AreLeast w (floors_of ob) values → (2 < length values) × (pos 0 ≤ℤ valuation_of values 1)
+    (ob : ObName) (w : List Lit) (values : List ℤ) → AreLeast w (floors_of ob) values
+    → (2 < length values) × (pos 0 ≤ℤ valuation_of values 1)
 least_length (Pair k l) w values least = let len = least.len in (omega arith, least.above 1 (lit< tt))
 least_length (Triple k l m) w values least = let len = least.len in (omega arith, least.above 1 (lit< tt))
 
-module _ (stand : NamesStand) (fails : PairFailsBy) (pair_breaks : PairBreaks) (triple_fails : TripleFailsBy) (triple_breaks : TripleBreaks)
+module _ (stand : NamesStand) (fails : PairFailsBy) (pair_breaks : PairBreaks) (triple_fails : TripleFailsBy)
+    (triple_breaks : TripleBreaks)
     (f : Function) where
   -- the operations of the least values break the property of the obligation, for the cause
   broken :
       (ob : ObName) (w : List Lit) (why : Why) (values : List ℤ) → IsTrue (is_obligation f.head ob)
-      → AreLeast w (floors_of ob) values → PartsAreSmall ob values → end_of (plan_of f ob) (valuation_of values) ≡ Some why
+      → AreLeast w (floors_of ob) values → PartsAreSmall ob values
+      → end_of (plan_of f ob) (valuation_of values) ≡ Some why
       → Breaks f (level_of ob) (document_at (valuation_of values) why) (ops_at (valuation_of values) ob)
       × BreaksBy f (level_of ob) (document_at (valuation_of values) why) (ops_at (valuation_of values) ob) why
   broken (Pair k l) w why values declared least small end =
@@ -146,7 +156,8 @@ module _ (stand : NamesStand) (fails : PairFailsBy) (pair_breaks : PairBreaks) (
       let b = op_at v (sym_op l B) in
       let d = document_at v why in
       let both =
-      pair_broken stand why values least.zero_first (least_length (Pair k l) w values least).1 fails f k l declared small end in
+      pair_broken stand why values least.zero_first (least_length (Pair k l) w values least).1 fails f
+      k l declared small end in
       ((a, b, refl, both.0, λ converges. pair_breaks f d a b (v 2) why both.1 converges), (a, b, v 2, refl, both.1))
   broken (Triple k l m) w why values declared least small end =
       let v = valuation_of values in
@@ -154,8 +165,8 @@ module _ (stand : NamesStand) (fails : PairFailsBy) (pair_breaks : PairBreaks) (
       let b = op_at v (sym_op l B) in
       let c = op_at v (sym_op m C) in
       let both =
-      triple_broken stand why values least.zero_first (least_length (Triple k l m) w values least).1 triple_fails f k l m declared small
-      end in
+      triple_broken stand why values least.zero_first (least_length (Triple k l m) w values least).1 triple_fails f k
+      l m declared small end in
       ((a, b, c, refl, both.0, λ commutes. triple_breaks f a b c why both.1 commutes), (a, b, c, refl, both.1))
 
 -- what is said of the plans of a function within the limits, and of the answers on a way through a plan
@@ -166,19 +177,23 @@ abbrev pub AnswersAreLike : Type 0
 AnswersAreLike = (why : Why) (p : Plan Why) (w : List Lit) → AsksLike p → LeadTo why p w → AreLike w
 
 abbrev pub AnswersLead : Type 0
-AnswersLead = (v : ℕ → ℤ) (why : Why) (p : Plan Why) (w : List Lit) → LeadTo why p w → AreMet v w → end_of p v ≡ Some why
+AnswersLead = (v : ℕ → ℤ) (why : Why) (p : Plan Why) (w : List Lit) → LeadTo why p w
+    → AreMet v w → end_of p v ≡ Some why
 
 abbrev pub LeastAreSmall : Type 0
-LeastAreSmall = (ob : ObName) (w : List Lit) (values : List ℤ) (who : Who) → AreLike w → AreLeast w (floors_of ob) values
+LeastAreSmall = (ob : ObName) (w : List Lit) (values : List ℤ) (who : Who) → AreLike w
+    → AreLeast w (floors_of ob) values
     → char_name who < length (floors_of ob) → IsSmallAt values who
 
 pub least_broken :
-    NamesStand → PairFailsBy → PairBreaks → TripleFailsBy → TripleBreaks → PlansAreLike → AnswersAreLike → AnswersLead → LeastAreSmall
+    NamesStand → PairFailsBy → PairBreaks → TripleFailsBy → TripleBreaks → PlansAreLike → AnswersAreLike
+    → AnswersLead → LeastAreSmall
     → (f : Function) (ob : ObName) (w : List Lit) (why : Why) (values : List ℤ) → IsTrue (is_valid f)
     → IsTrue (is_obligation f.head ob) → LeadTo why (plan_of f ob) w → AreLeast w (floors_of ob) values
     → Breaks f (level_of ob) (document_at (valuation_of values) why) (ops_at (valuation_of values) ob)
     × BreaksBy f (level_of ob) (document_at (valuation_of values) why) (ops_at (valuation_of values) ob) why
-least_broken stand fails pair_breaks triple_fails triple_breaks plans answers ends small f ob w why values valid declared lead least =
+least_broken stand fails pair_breaks triple_fails triple_breaks plans answers ends small f ob w why values
+    valid declared lead least =
     broken stand fails pair_breaks triple_fails triple_breaks f ob w why values declared least
     (λ who. small ob w values who (answers why (plan_of f ob) w (plans f ob valid) lead) least)
     (ends (valuation_of values) why (plan_of f ob) w lead least.met)

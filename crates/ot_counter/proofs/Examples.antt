@@ -51,5 +51,6 @@ twice_left = refl
 abbrev three : ℕ → ℤ
 three = valuation_of (pos 0 ∷ pos 3 ∷ pos 1 ∷ [])
 
-read_and_dead : document_at three (Cells (Some (pos 0)) (Some (pos 1))) ≡ live_cell 121 ∷ live_cell 120 ∷ dead_cell (live_cell 121) ∷ []
+read_and_dead : document_at three (Cells (Some (pos 0)) (Some (pos 1)))
+    ≡ live_cell 121 ∷ live_cell 120 ∷ dead_cell (live_cell 121) ∷ []
 read_and_dead = refl

@@ -24,10 +24,12 @@ use Rattle.ot_model.specs.Effect.{IsEnabled}
 use Rattle.fn_rules.specs.declared.function.Level.TheVariants.{Tp1, Tp2}
 use Rattle.ot_counter.specs.Counters.{Breaks, BreaksBy}
 
-pub for_kind : (head : Head) (k : Kind) (o : Op) → is_declared head k ≡ true → kind_of o ≡ Some k → IsForKind head (kind_of o)
+pub for_kind : (head : Head) (k : Kind) (o : Op) → is_declared head k ≡ true → kind_of o ≡ Some k
+    → IsForKind head (kind_of o)
 for_kind head k o h e = subst (λ x. IsForKind head x) (sym e) h
 
-pub pair_kinds : (head : Head) (k l : Kind) → IsTrue (is_obligation head (Pair k l)) → (is_declared head k ≡ true) × (is_declared head l ≡ true)
+pub pair_kinds : (head : Head) (k l : Kind) → IsTrue (is_obligation head (Pair k l))
+    → (is_declared head k ≡ true) × (is_declared head l ≡ true)
 pair_kinds head k l h = and_parts (is_declared head k) (is_declared head l) h
 
 pub triple_kinds :
@@ -39,13 +41,16 @@ triple_kinds head k l m h =
     (first.0, first.1, both.1)
 
 pub breaks_there :
-    (f : Function) (level at : Level) (d e : List Cell) (ops os : List Op) → level ≡ at → d ≡ e → ops ≡ os → Breaks f at e os
+    (f : Function) (level at : Level) (d e : List Cell) (ops os : List Op) → level ≡ at → d ≡ e
+    → ops ≡ os → Breaks f at e os
     → Breaks f level d ops
 breaks_there f level at d e ops os p q r h =
-    subst (λ x. Breaks f x d ops) (sym p) (subst (λ x. Breaks f at x ops) (sym q) (subst (λ x. Breaks f at e x) (sym r) h))
+    subst (λ x. Breaks f x d ops) (sym p)
+    (subst (λ x. Breaks f at x ops) (sym q) (subst (λ x. Breaks f at e x) (sym r) h))
 
 -- what breaks a property is concurrent
-pub concurrent_where_broken : (f : Function) (level : Level) (d : List Cell) (ops : List Op) → Breaks f level d ops → AreConcurrent f d ops
+pub concurrent_where_broken : (f : Function) (level : Level) (d : List Cell) (ops : List Op)
+    → Breaks f level d ops → AreConcurrent f d ops
 concurrent_where_broken f Tp1 d ops h = h.3
 concurrent_where_broken f Tp2 d ops h = h.4
 
@@ -67,7 +72,8 @@ breaks_by_there f why level at d e ops os p q r h =
 
 -- the ways of equal operations on equal documents
 pub document_way-there :
-    (f : Function) (d e : List Cell) (a b x y : Op) → d ≡ e → a ≡ x → b ≡ y → document_way f d a b ≡ document_way f e x y
+    (f : Function) (d e : List Cell) (a b x y : Op) → d ≡ e → a ≡ x → b ≡ y
+    → document_way f d a b ≡ document_way f e x y
 document_way-there f d e a b x y p q r =
     ap (λ z. document_way f z a b) p ∙ (ap (λ z. document_way f e z b) q ∙ ap (λ z. document_way f e x z) r)
 
@@ -85,14 +91,16 @@ pub three_there : (a b c x y z : Op) → a ≡ x → b ≡ y → c ≡ z → (a 
 three_there a b c x y z p q r = ap (λ o. o ∷ b ∷ c ∷ []) p ∙ (ap (λ o. x ∷ o ∷ c ∷ []) q ∙ ap (λ o. x ∷ y ∷ o ∷ []) r)
 
 -- the parts of each operation of an obligation
-module _ (values : List ℤ) (ob : ObName) (parts : (who : Who) → char_name who < length (floors_of ob) → IsSmallAt values who) where
+module _ (values : List ℤ) (ob : ObName) (parts : (who : Who) → char_name who < length (floors_of ob)
+    → IsSmallAt values who) where
   pub parts_of_pair : (k l : Kind) → ob ≡ Pair k l → IsSmallAt values A × IsSmallAt values B
   parts_of_pair k l e = (
     parts A (subst (λ o. 5 < length (floors_of o)) (sym e) (lit< tt)),
     parts B (subst (λ o. 8 < length (floors_of o)) (sym e) (lit< tt)),
   )
 
-  pub parts_of_triple : (k l m : Kind) → ob ≡ Triple k l m → IsSmallAt values A × IsSmallAt values B × IsSmallAt values C
+  pub parts_of_triple : (k l m : Kind) → ob ≡ Triple k l m
+      → IsSmallAt values A × IsSmallAt values B × IsSmallAt values C
   parts_of_triple k l m e = (
     parts A (subst (λ o. 5 < length (floors_of o)) (sym e) (lit< tt)),
     parts B (subst (λ o. 8 < length (floors_of o)) (sym e) (lit< tt)),

@@ -1,7 +1,8 @@
 -- The document of a counterexample shows the cause: where the characters of the operations are others than
 -- `x` and `y`, it tells apart what final documents have at the index.
-use Rattle.std.proofs.Common.{◌≡◌, ◌≢◌, ℕ, zero, suc, ◌+◌, ℤ, pos, negsuc, ◌+ℤ◌, Bool, true, false, not, if◌then◌else◌, Option, Some, None, List, [], ◌∷◌, ◌++◌}
-use Rattle.std.proofs.Common.{length, refl, ap, sym, ◌∙◌, inl, inr, arith, add-one}
+use Rattle.std.proofs.Common.{◌≡◌, ◌≢◌, ℕ, zero, suc, ◌+◌, ℤ, pos, negsuc, ◌+ℤ◌, Bool, true, false, not, if◌then◌else◌}
+use Rattle.std.proofs.Common.{Option, Some, None, List, [], ◌∷◌, ◌++◌, length, refl, ap, sym, ◌∙◌, inl, inr, arith}
+use Rattle.std.proofs.Common.{add-one}
 use Rattle.std.specs.Prelude.{slice_get, unsigned_abs}
 use Rattle.std.specs.Ordering.{int_eq}
 use Rattle.std.proofs.lemmas.Bool.{cases_Bool}
@@ -29,20 +30,23 @@ pub placed-more : (n : ℕ) (h : ℕ → Cell) → cells_by_place n h ++ h n ∷
 placed-more zero h = refl
 placed-more (suc n) h = ap (λ cells. h 0 ∷ cells) (placed-more n (λ t. h (suc t)))
 
-slice_get-placed : (n : ℕ) (h : ℕ → Cell) (t : ℕ) (cell : Cell) → slice_get (cells_by_place n h) t ≡ Some cell → h t ≡ cell
+slice_get-placed : (n : ℕ) (h : ℕ → Cell) (t : ℕ) (cell : Cell)
+    → slice_get (cells_by_place n h) t ≡ Some cell → h t ≡ cell
 slice_get-placed zero h t cell e = absurd (cc)
 slice_get-placed (suc n) h zero cell e = cc
 slice_get-placed (suc n) h (suc t) cell e = slice_get-placed n (λ u. h (suc u)) t cell e
 
 cell_in-placed :
-    (n : ℕ) (h : ℕ → Cell) (j : ℤ) (cell : Cell) → cell_in (cells_by_place n h) j ≡ Some cell → (t : ℕ) × (j ≡ pos t) × (h t ≡ cell)
+    (n : ℕ) (h : ℕ → Cell) (j : ℤ) (cell : Cell) → cell_in (cells_by_place n h) j ≡ Some cell
+    → (t : ℕ) × (j ≡ pos t) × (h t ≡ cell)
 cell_in-placed n h (pos t) cell e = (t, refl, slice_get-placed n h t cell e)
 cell_in-placed n h (negsuc t) cell e = absurd (cc)
 
 -- the place at an offset, and no other
 at_there : (i k : ℤ) (read : Option ℤ) (t : ℕ) → read ≡ Some k → i +ℤ k ≡ pos t → is_at i read t ≡ true
 at_there i k None t r e = absurd (cc)
-at_there i k (Some j) t r e = let same : j ≡ k = cc in (Decides-int_eq (pos t) (i +ℤ j)).1 (sym (ap (λ o. i +ℤ o) same ∙ e))
+at_there i k (Some j) t r e = let same : j ≡ k = cc in
+    (Decides-int_eq (pos t) (i +ℤ j)).1 (sym (ap (λ o. i +ℤ o) same ∙ e))
 
 there_at : (i k : ℤ) (read : Option ℤ) (t : ℕ) → read ≡ Some k → is_at i read t ≡ true → pos t ≡ i +ℤ k
 there_at i k None t r e = absurd (cc)
@@ -73,7 +77,8 @@ no_letter : (o : Option ℕ) (read : Bool) → IsFresh o → o ≢ Some (letter 
 no_letter o true h = h.not_x
 no_letter o false h = h.not_y
 
-module _ (n : ℕ) (a b : Op) (i : ℤ) (left dead : Option ℤ) (fresh_a : IsFresh (char_of a)) (fresh_b : IsFresh (char_of b)) where
+module _ (n : ℕ) (a b : Op) (i : ℤ) (left dead : Option ℤ) (fresh_a : IsFresh (char_of a))
+    (fresh_b : IsFresh (char_of b)) where
   abbrev cell_at : ℕ → Cell
   cell_at t = shown_cell i (Cells left dead) t
 
@@ -105,7 +110,8 @@ pub length-document_at : (v : ℕ → ℤ) (why : Why) → length (document_at v
 length-document_at v why = length-placed (unsigned_abs (v 1)) (shown_cell (v 2) why)
 
 pub document_shows :
-    (v : ℕ → ℤ) (a b : Op) (why : Why) → IsFresh (char_of a) → IsFresh (char_of b) → ShowsCause (document_at v why) a b (v 2) why
+    (v : ℕ → ℤ) (a b : Op) (why : Why) → IsFresh (char_of a) → IsFresh (char_of b)
+    → ShowsCause (document_at v why) a b (v 2) why
 document_shows v a b Undefined fa fb = tt
 document_shows v a b OutOfRange fa fb = tt
 document_shows v a b Lengths fa fb = tt
@@ -131,7 +137,9 @@ fresh_at v kinds.Upd who hx hy = record { not_x = fresh_some _ 120 hx; not_y = f
 
 -- the next cell of a document that is made place by place
 pub placed-next :
-    (n : ℕ) (h : ℕ → Cell) (doc next : List Cell) (cell : Cell) → doc ≡ cells_by_place n h → cell ≡ h n → next ≡ doc ++ cell ∷ []
+    (n : ℕ) (h : ℕ → Cell) (doc next : List Cell) (cell : Cell) → doc ≡ cells_by_place n h → cell ≡ h n
+    → next ≡ doc ++ cell ∷ []
     → next ≡ cells_by_place (n + 1) h
 placed-next n h doc next cell e f g =
-    g ∙ (ap (λ cells. cells ++ cell ∷ []) e ∙ (ap (λ x. cells_by_place n h ++ x ∷ []) f ∙ (placed-more n h ∙ rw add-one refl)))
+    g ∙ (ap (λ cells. cells ++ cell ∷ []) e
+    ∙ (ap (λ x. cells_by_place n h ++ x ∷ []) f ∙ (placed-more n h ∙ rw add-one refl)))

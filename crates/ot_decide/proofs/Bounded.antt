@@ -1,6 +1,7 @@
 -- Plans behind the question whether a document has fewer cells than a bound keep the limits.
 use Rattle.std.specs.Prelude.{IsTrue}
-use Rattle.std.proofs.Common.{◌≡◌, ℕ, ◌≤◌, ◌<◌, ℤ, pos, negsuc, ◌-ℤ◌, ◌≤ℤ◌, Bool, true, ◌&&◌, int_le, Option, Some, None, arith, refl}
+use Rattle.std.proofs.Common.{◌≡◌, ℕ, ◌≤◌, ◌<◌, ℤ, pos, negsuc, ◌-ℤ◌, ◌≤ℤ◌, Bool, true, ◌&&◌, int_le, Option, Some}
+use Rattle.std.proofs.Common.{None, arith, refl}
 use Rattle.std.proofs.lemmas.Bool.{and_parts}
 use Rattle.std.proofs.lemmas.Int.{ints}
 use Rattle.diff_graph.specs.declared.lit.Lit.{Lit}
@@ -42,7 +43,8 @@ pub below_fine :
     → longest_path (plan_of f ob) ≤ 12309 → IsBound below → IsFine (name_count ob) (plan_below f below ob)
 below_fine f None ob fine short few = fine
 below_fine f (Some bound) ob fine short few =
-    let question = is_fine_literal (name_count ob) (record { x = length_name; y = zero_name; k = pos bound -ℤ pos 1 }) in
+    let question = is_fine_literal (name_count ob)
+    (record { x = length_name; y = zero_name; k = pos bound -ℤ pos 1 }) in
     let behind = has_fine_literals (name_count ob) (plan_of f ob) in
     record {
       literals = both (question && behind) true (both question behind (bound_fine ob bound few) fine.literals) refl;

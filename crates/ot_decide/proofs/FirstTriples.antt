@@ -54,7 +54,8 @@ module _ (lists_show : ListsShow) (f : Function) (k l m : Kind) (end : FailingEn
 
   -- an obligation in front of others that is a pair
   pair_holds :
-      (ob : ObName) (obs : List ObName) (q : Questions Why) (failing : Option (FailingEnd Why)) (lists : List (ObQuestions Why))
+      (ob : ObName) (obs : List ObName) (q : Questions Why) (failing : Option (FailingEnd Why))
+      (lists : List (ObQuestions Why))
       → IsPair ob → QuestionList (plan_of f ob) [] q → q.failing ≡ failing → Joins (plan_of f) ob obs q failing lists
       → FailsFirst lists
       → ObligationHolds f ob × ((later : List (ObQuestions Why)) × AreAsked (plan_of f) obs later × FailsFirst later)
@@ -70,7 +71,8 @@ module _ (lists_show : ListsShow) (f : Function) (k l m : Kind) (end : FailingEn
 
   -- all pairs in front of others
   pairs_hold :
-      (obs later : List ObName) (lists : List (ObQuestions Why)) → ArePairs obs → AreAsked (plan_of f) (obs ++ later) lists
+      (obs later : List ObName) (lists : List (ObQuestions Why)) → ArePairs obs
+      → AreAsked (plan_of f) (obs ++ later) lists
       → FailsFirst lists → AllHold f obs
   pairs_hold [] later lists pairs asked first = tt
   pairs_hold (ob ∷ obs) later lists pairs (q, listed, joins) first =

@@ -1,6 +1,7 @@
 -- The question lists of obligations: there is exactly one list of them.
 use Rattle.std.specs.Option.{option_or}
-use Rattle.std.proofs.Common.{◌≡◌, ◌≤◌, List, [], ◌∷◌, length, Option, Some, None, MatchOption, option_map, arith, refl, sym, ap, subst, ◌∙◌}
+use Rattle.std.proofs.Common.{◌≡◌, ◌≤◌, List, [], ◌∷◌, length, Option, Some, None, MatchOption, option_map, arith, refl}
+use Rattle.std.proofs.Common.{sym, ap, subst, ◌∙◌}
 use Rattle.diff_graph.specs.declared.lit.Lit.{Lit}
 use Rattle.fn_rules.specs.declared.function.ObName.{ObName}
 use Rattle.ask_core.specs.Plans.{Plan}
@@ -24,10 +25,12 @@ module _ {W : Type 0} (plan : ObName → Plan W) where
 
   -- all of an obligation's questions are asked first
   abbrev pub BeginsWith : ObName → List ObName → Questions W → Type 0
-  BeginsWith ob obs q = (lists : List (ObQuestions W)) × AreAsked plan (ob ∷ obs) lists × (length q.asked ≤ count_in lists)
+  BeginsWith ob obs q =
+      (lists : List (ObQuestions W)) × AreAsked plan (ob ∷ obs) lists × (length q.asked ≤ count_in lists)
 
   begins_at :
-      (ob : ObName) (obs : List ObName) (q : Questions W) (failing : Option (FailingEnd W)) (later : List (ObQuestions W))
+      (ob : ObName) (obs : List ObName) (q : Questions W) (failing : Option (FailingEnd W))
+      (later : List (ObQuestions W))
       → AreAsked plan obs later
       → (lists : List (ObQuestions W)) × Joins ob obs q failing lists × (length q.asked ≤ count_in lists)
   begins_at ob obs q None later asked = (asked_of ob q ∷ later, (later, asked, refl), omega arith)

@@ -1,8 +1,8 @@
 -- What the search of obligations comes to, by the search of the first and of those behind it, over any family of plans.
 use Rattle.std.specs.Prelude.{IsTrue}
 use Rattle.std.specs.declared.alloc.Global.{Global}
-use Rattle.std.proofs.Common.{◌≡◌, ℕ, ◌+◌, ◌-◌, ◌*◌, ◌≤◌, List, [], ◌∷◌, ◌++◌, length, Option, None, MatchOption, Vec, arith, refl, sym, ap, subst, ◌∙◌}
-use Rattle.std.proofs.Common.{append_assoc}
+use Rattle.std.proofs.Common.{◌≡◌, ℕ, ◌+◌, ◌-◌, ◌*◌, ◌≤◌, List, [], ◌∷◌, ◌++◌, length, Option, None, MatchOption, Vec}
+use Rattle.std.proofs.Common.{arith, refl, sym, ap, subst, ◌∙◌, append_assoc}
 use Rattle.std.proofs.lemmas.List.{append-nil}
 use Rattle.std.proofs.Math.ListN.{length-append}
 use Rattle.diff_graph.specs.Literals.{IsPossible}
@@ -70,15 +70,18 @@ module _ (head : Head) (plan : ObName → Plan Why) where
   section_few ob t asked more fits spellable are =
       let line = ob_text_few ob in
       let tree = tree_text_few t (plan ob) [] fits spellable in
-      let inner : length (ob_text ob ++ tokens_text (tokens_of t)) ≡ length (ob_text ob) + length (tokens_text (tokens_of t)) =
+      let inner : length (ob_text ob ++ tokens_text (tokens_of t))
+      ≡ length (ob_text ob) + length (tokens_text (tokens_of t)) =
       length-append (ob_text ob) (tokens_text (tokens_of t)) in
       let ended : length (section_text ob (tokens_of t)) ≡ length (ob_text ob ++ tokens_text (tokens_of t)) + 1 =
       length-append (ob_text ob ++ tokens_text (tokens_of t)) (10 ∷ []) in
-      let whole : length (section_text ob (tokens_of t) ++ more) ≡ length (section_text ob (tokens_of t)) + length more =
+      let whole : length (section_text ob (tokens_of t) ++ more)
+      ≡ length (section_text ob (tokens_of t)) + length more =
       length-append (section_text ob (tokens_of t)) more in
       omega arith
 
-  module _ (ob : ObName) (obs : List ObName) (budget asked : ℕ) (tree : Written) (short : longest_path (plan ob) ≤ MAX_QUESTIONS)
+  module _ (ob : ObName) (obs : List ObName) (budget asked : ℕ) (tree : Written)
+      (short : longest_path (plan ob) ≤ MAX_QUESTIONS)
       (searched : IsDecided (plan ob) budget (outcome.Yes tree asked)) where
     abbrev behind : List (ObQuestions Why) → List (ObQuestions Why)
     behind later = asked_of ob searched.questions ∷ later
@@ -93,11 +96,13 @@ module _ (head : Head) (plan : ObName → Plan Why) where
     )
 
     behind_failing : (later : List (ObQuestions Why)) → failing_in (behind later) ≡ failing_in later
-    behind_failing later = ap (λ (o : Option (FailingEnd Why)). first_failing ob o (failing_in later)) searched.decided.1
+    behind_failing later =
+        ap (λ (o : Option (FailingEnd Why)). first_failing ob o (failing_in later)) searched.decided.1
 
     -- where those behind the obligation are proved, so are all, with its tree in front
     behind_proved :
-        (later : List (ObQuestions Why)) (left : ℕ) (before middle after : List ℕ) → middle ≡ before ++ section_text ob tree.tokens
+        (later : List (ObQuestions Why)) (left : ℕ) (before middle after : List ℕ)
+        → middle ≡ before ++ section_text ob tree.tokens
         → AreProved plan obs (budget - asked) later left middle after
         → AreProved plan (ob ∷ obs) budget (behind later) left before after
     behind_proved later left before middle after wrote proved =
@@ -108,7 +113,8 @@ module _ (head : Head) (plan : ObName → Plan Why) where
         let first : middle ≡ before ++ text =
         wrote ∙ ap (λ (x : List Tok). before ++ section_text ob x) proof.spelled in
         let few =
-        section_few ob proof.tree (length searched.questions.asked) more proof.fits spellable (ap length proof.questions) in
+        section_few ob proof.tree (length searched.questions.asked) more proof.fits spellable
+        (ap length proof.questions) in
         record {
           counted = omega (arith, proved.counted, searched.decided.0, searched.decided.2);
           within = omega (arith, proved.within, searched.decided.0, searched.decided.2);
@@ -143,7 +149,8 @@ module _ (head : Head) (plan : ObName → Plan Why) where
     -- an obligation that holds, its tree written, and those behind it by what is left of the budget
     pub settled_behind :
         (before middle after : List ℕ) (s : SearchVerdict) → middle ≡ before ++ section_text ob tree.tokens
-        → AreSettled head plan obs (budget - asked) middle after s → AreSettled head plan (ob ∷ obs) budget before after s
+        → AreSettled head plan obs (budget - asked) middle after s
+        → AreSettled head plan (ob ∷ obs) budget before after s
     settled_behind before middle after s wrote (later, asked_later, settles) =
         (behind later, behind_asked later asked_later, behind_settles later before middle after s wrote settles)
 
@@ -184,7 +191,8 @@ module _ (head : Head) (plan : ObName → Plan Why) where
       (begins.0, begins.1, omega (arith, begins.2, searched.decided))
 
 -- Where the obligations are those of a level, and the plans those of all documents, this is the verdict of the level.
-module _ (f : Function) (level : Level) (budget : ℕ) (obs : List ObName) (are : obs ≡ obligations_of f.head level) (before after : List ℕ) where
+module _ (f : Function) (level : Level) (budget : ℕ) (obs : List ObName) (are : obs ≡ obligations_of f.head level)
+    (before after : List ℕ) where
   pub decided_no :
       (ob : ObName) (answers : Vec Answer Global) (why : Why)
       → AreSettled f.head (plan_of f) obs budget before after (search.Fails ob answers why)
@@ -197,7 +205,8 @@ module _ (f : Function) (level : Level) (budget : ℕ) (obs : List ObName) (are 
   decided_spent (lists, asked, decided) =
       (lists, subst (λ (n : List ObName). AreAsked (plan_of f) n lists) are asked, decided)
 
-  module _ (bytes : Vec ℕ Global) (left : ℕ) (begun : before ≡ header_text obs level) (ended : bytes.items ≡ after ++ end_text)
+  module _ (bytes : Vec ℕ Global) (left : ℕ) (begun : before ≡ header_text obs level)
+      (ended : bytes.items ≡ after ++ end_text)
       (settled : AreSettled f.head (plan_of f) obs budget before after (search.AllHold left)) where
     -- where all of them hold, the bytes are a certificate of the level, and the verdict is yes
     pub decided_yes : IsDecidedAs f level budget (verdict.Yes bytes (budget - left))
@@ -205,7 +214,8 @@ module _ (f : Function) (level : Level) (budget : ℕ) (obs : List ObName) (are 
         let lists = settled.0 in
         let proved = settled.2 in
         let text : bytes.items ≡ certificate_text obs level proved.trees =
-        ended ∙ ap (λ (x : List ℕ). x ++ end_text) (proved.written ∙ ap (λ (x : List ℕ). x ++ sections_text obs proved.trees) begun) in (
+        ended ∙ ap (λ (x : List ℕ). x ++ end_text) (proved.written
+        ∙ ap (λ (x : List ℕ). x ++ sections_text obs proved.trees) begun) in (
           lists,
           subst (λ (n : List ObName). AreAsked (plan_of f) n lists) are settled.1,
           (
@@ -225,9 +235,12 @@ module _ (f : Function) (level : Level) (budget : ℕ) (obs : List ObName) (are 
     pub few_yes : budget ≤ 1000000 → length bytes.items ≤ 83886080
     few_yes limit =
         let proved = settled.2 in
-        let header : length before ≤ 13 = subst (λ (x : List ℕ). length x ≤ 13) (sym begun) (header_text_few obs level) in
-        let obligations : length obs ≤ 24 = subst (λ (n : List ObName). length n ≤ 24) (sym are) (obligations_few f.head level) in
+        let header : length before ≤ 13 = subst (λ (x : List ℕ). length x ≤ 13) (sym begun)
+        (header_text_few obs level) in
+        let obligations : length obs ≤ 24 =
+        subst (λ (n : List ObName). length n ≤ 24) (sym are) (obligations_few f.head level) in
         let lines : length after ≡ length before + length (sections_text obs proved.trees) =
         ap length proved.written ∙ length-append before (sections_text obs proved.trees) in
-        let whole : length bytes.items ≡ length after + length end_text = ap length ended ∙ length-append after end_text in
+        let whole : length bytes.items ≡ length after + length end_text = ap length ended
+        ∙ length-append after end_text in
         omega (arith, proved.few_bytes, proved.within)

@@ -2,7 +2,8 @@
 use Rattle.std.specs.Prelude.{true, false, option_and_then}
 use Rattle.std.specs.Fmt.{decimal}
 use Rattle.std.specs.List.{AllByRecursion}
-use Rattle.std.proofs.Common.{◌≡◌, ℕ, ◌+◌, ◌*◌, ◌<◌, ◌≤◌, List, [], ◌∷◌, ◌++◌, length, Option, Some, None, Ok, slice_get, arith, refl, ap}
+use Rattle.std.proofs.Common.{◌≡◌, ℕ, ◌+◌, ◌*◌, ◌<◌, ◌≤◌, List, [], ◌∷◌, ◌++◌, length, Option, Some, None, Ok}
+use Rattle.std.proofs.Common.{slice_get, arith, refl, ap}
 use Rattle.std.proofs.lemmas.Fmt.{length-decimal-le}
 use Rattle.std.proofs.lemmas.Grind.{flat_map-append}
 use Rattle.std.proofs.lemmas.List.{append-nil}
@@ -37,7 +38,8 @@ first_below w n (Some l) (Some ls) lits Later is later all = (slice_get_within w
 picks_below : (w : List Lit) (picks : List ℕ) (lits : List Lit) → picked w picks ≡ Some lits → AreBelow (length w) picks
 picks_below w [] lits are = tt
 picks_below w (n ∷ ns) lits are =
-    first_below w n (slice_get w n) (picked w ns) lits (AreBelow (length w) ns) refl (λ ls is. picks_below w ns ls is) are
+    first_below w n (slice_get w n) (picked w ns) lits (AreBelow (length w) ns) refl
+    (λ ls is. picks_below w ns ls is) are
 
 named : (o : Option (List Lit)) → verdict_of_picked o ≡ Ok tt → (lits : List Lit) × (o ≡ Some lits)
 named None negative = absurd (cc)
@@ -67,7 +69,8 @@ more_numbers_few (n ∷ ns) short =
     length-append (decimal n) (more_numbers_text ns) in
     omega arith
 
-numbers_few : (picks : List ℕ) → 1 ≤ length picks → length picks ≤ 12 → AreShort picks → length (numbers_text picks) ≤ 71
+numbers_few : (picks : List ℕ) → 1 ≤ length picks → length picks ≤ 12 → AreShort picks
+    → length (numbers_text picks) ≤ 71
 numbers_few [] some few short = omega arith
 numbers_few (n ∷ ns) some few short =
     let digits = digits_few n short.0 in
@@ -109,8 +112,10 @@ module _ {W : Type 0} where
       (t : AnswerTree) (p : Plan W) (w : List Lit) → length w + longest_path p ≤ MAX_QUESTIONS → Fits t p w
       → AreSpellable (tokens_of t)
   spelled (Question t u) (Ask l on_yes on_no) w short fits =
-      let yes : length (with_answer w l true) + longest_path on_yes ≤ MAX_QUESTIONS = omega (arith, length-append {A = Lit}) in
-      let no : length (with_answer w l false) + longest_path on_no ≤ MAX_QUESTIONS = omega (arith, length-append {A = Lit}) in (
+      let yes : length (with_answer w l true) + longest_path on_yes ≤ MAX_QUESTIONS =
+      omega (arith, length-append {A = Lit}) in
+      let no : length (with_answer w l false) + longest_path on_no ≤ MAX_QUESTIONS =
+      omega (arith, length-append {A = Lit}) in (
         tt,
         both_spellable (tokens_of t) (tokens_of u) (spelled t on_yes (with_answer w l true) yes fits.0)
             (spelled u on_no (with_answer w l false) no fits.1),
@@ -137,8 +142,10 @@ module _ {W : Type 0} where
       (t : AnswerTree) (p : Plan W) (w : List Lit) → Fits t p w → AreSpellable (tokens_of t)
       → length (tokens_text (tokens_of t)) ≤ 74 * length (asked_along t p w) + 73
   tree_text_few (Question t u) (Ask l on_yes on_no) w fits spellable =
-      let yes = tree_text_few t on_yes (with_answer w l true) fits.0 (left_spellable (tokens_of t) (tokens_of u) spellable.1) in
-      let no = tree_text_few u on_no (with_answer w l false) fits.1 (right_spellable (tokens_of t) (tokens_of u) spellable.1) in
+      let yes = tree_text_few t on_yes (with_answer w l true) fits.0
+      (left_spellable (tokens_of t) (tokens_of u) spellable.1) in
+      let no = tree_text_few u on_no (with_answer w l false) fits.1
+      (right_spellable (tokens_of t) (tokens_of u) spellable.1) in
       let text = question_text (tokens_of t) (tokens_of u) in
       let asked :
       length (asked_along t on_yes (with_answer w l true) ++ asked_along u on_no (with_answer w l false))

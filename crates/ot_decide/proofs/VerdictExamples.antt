@@ -20,7 +20,8 @@ abbrev asked_once : Questions ℕ
 asked_once = record { asked = [] ∷ []; failing = None }
 
 abbrev asked_twice : List (ObQuestions ℕ)
-asked_twice = record { ob = Pair Ins Ins; questions = asked_once } ∷ record { ob = Pair Ins Del; questions = asked_once } ∷ []
+asked_twice =
+    record { ob = Pair Ins Ins; questions = asked_once } ∷ record { ob = Pair Ins Del; questions = asked_once } ∷ []
 
 -- integers meet no answers
 nothing_is_met : IsPossible []
@@ -30,13 +31,18 @@ nothing_is_met = ((λ _. pos 0), refl, tt)
 both_are_asked : AreAsked (λ _. one_question) two asked_twice
 both_are_asked = (
   asked_once,
-  inr (nothing_is_met, (record { asked = []; failing = None }, refl, (record { asked = []; failing = None }, refl, refl))),
+  inr (
+    nothing_is_met,
+    (record { asked = []; failing = None }, refl, (record { asked = []; failing = None }, refl, refl)),
+  ),
   (
     record { ob = Pair Ins Del; questions = asked_once } ∷ [],
     (
       asked_once,
-      inr
-          (nothing_is_met, (record { asked = []; failing = None }, refl, (record { asked = []; failing = None }, refl, refl))),
+      inr (
+        nothing_is_met,
+        (record { asked = []; failing = None }, refl, (record { asked = []; failing = None }, refl, refl)),
+      ),
       ([], refl, refl),
     ),
     refl,

@@ -7,7 +7,7 @@ ghost use Rattle.ask_core.specs.declared.asker.TheConstants.{MAX_QUESTIONS};
 ghost use Rattle.ask_core.specs.Askers.{IsFine, longest_path};
 ghost use Rattle.ot_questions.specs.Obligation.{plan_below};
 ghost use Rattle.ot_sections.specs.Stands.{plan_behind};
-ghost use Rattle.search_places.specs.declared.split.TheConstants.{MAX_NAMES};
+ghost use Rattle.ask_core.specs.declared.asker.TheConstants.{MAX_NAMES};
 ghost use Rattle.ot_prove.specs.Outcomes.{IsDecided, StandsBehind};
 ghost use Rattle.ot_decide.specs.Below.{IsBound};
 ghost use Rattle.ot_decide.specs.Proving.{AreSettled};

@@ -1,6 +1,6 @@
 -- What the functions of the workload make of insertions and deletions: further cases change nothing.
-use Rattle.std.proofs.Common.{◌≡◌, ℕ, zero, suc, ◌≤◌, ℤ, pos, negsuc, ◌+ℤ◌, Bool, true, false, ◌&&◌, if◌then◌else◌, int_lt, ◌++◌, Some, refl, ap, ◌∙◌, inl, inr}
-use Rattle.std.proofs.Common.{arith}
+use Rattle.std.proofs.Common.{◌≡◌, ℕ, zero, suc, ◌≤◌, ℤ, pos, negsuc, ◌+ℤ◌, Bool, true, false, ◌&&◌, if◌then◌else◌}
+use Rattle.std.proofs.Common.{int_lt, ◌++◌, Some, refl, ap, ◌∙◌, inl, inr, arith}
 use Rattle.std.specs.Ordering.{int_eq}
 use Rattle.std.proofs.lemmas.Bool.{cases_Bool}
 use Rattle.std.proofs.lemmas.Int.{ints}
@@ -30,12 +30,14 @@ implied p q s t k h = grind (arith, ints)
 -- what the three cases of `ttf` choose for two insertions
 chosen : (p q : ℤ) (s t : ℕ) →
     (if int_lt p (q +ℤ pos 0) then p +ℤ pos 0
-    else (if int_eq p (q +ℤ pos 0) && int_lt (pos s) (pos t +ℤ pos 0) then p +ℤ pos 0 else p +ℤ pos 1)) ≡ place_behind p s q t
+    else (if int_eq p (q +ℤ pos 0) && int_lt (pos s) (pos t +ℤ pos 0) then p +ℤ pos 0 else p +ℤ pos 1))
+    ≡ place_behind p s q t
 unfolding place_behind
 chosen p q s t = grind (arith, ints)
 
 -- what its two cases choose for a deletion behind an insertion
-chosen_deletion : (p q : ℤ) (t u : ℕ) → t ≤ u → (if int_lt p (q +ℤ pos 0) then p +ℤ pos 0 else p +ℤ pos 1) ≡ place_behind p u q t
+chosen_deletion : (p q : ℤ) (t u : ℕ) → t ≤ u
+    → (if int_lt p (q +ℤ pos 0) then p +ℤ pos 0 else p +ℤ pos 1) ≡ place_behind p u q t
 unfolding place_behind
 chosen_deletion p q t u h = grind (arith, ints)
 
@@ -54,8 +56,8 @@ twice_through g false c x y = if_through g c x y
 insertions : (n : ℕ) (p q : ℤ) (c d s t : ℕ) →
     first_result (further_cases n ++ smaller_stays) (Ins p c s) (Ins q d t) ≡ Some (Ins (place_behind p s q t) c s)
 insertions zero p q c d s t =
-    twice_through (λ x. Some (Ins x c s)) (int_lt p (q +ℤ pos 0)) (int_eq p (q +ℤ pos 0) && int_lt (pos s) (pos t +ℤ pos 0))
-    (p +ℤ pos 0) (p +ℤ pos 1)
+    twice_through (λ x. Some (Ins x c s)) (int_lt p (q +ℤ pos 0))
+    (int_eq p (q +ℤ pos 0) && int_lt (pos s) (pos t +ℤ pos 0)) (p +ℤ pos 0) (p +ℤ pos 1)
     ∙ ap (λ x. Some (Ins x c s)) (chosen p q s t)
 insertions (suc k) p q c d s t =
     elim (cases_Bool (int_lt p (q +ℤ negsuc k))) [
@@ -76,9 +78,11 @@ deletion_behind n p q d s t u h =
     ∙ ap (λ x. Some (Del x s)) (chosen_deletion p q t u h)
 
 -- behind a deletion no insertion moves
-pub insertion_behind_deletion : (n : ℕ) (p q : ℤ) (c s t : ℕ) → transform_of (drill_function n) (Ins p c s) (Del q t) ≡ Some (Ins p c s)
+pub insertion_behind_deletion : (n : ℕ) (p q : ℤ) (c s t : ℕ)
+    → transform_of (drill_function n) (Ins p c s) (Del q t) ≡ Some (Ins p c s)
 insertion_behind_deletion n p q c s t = ap (λ x. Some (Ins x c s)) (plus_zero p)
 
 -- behind a deletion no deletion moves
-pub deletion_behind_deletion : (n : ℕ) (p q : ℤ) (s t : ℕ) → transform_of (drill_function n) (Del p s) (Del q t) ≡ Some (Del p s)
+pub deletion_behind_deletion : (n : ℕ) (p q : ℤ) (s t : ℕ)
+    → transform_of (drill_function n) (Del p s) (Del q t) ≡ Some (Del p s)
 deletion_behind_deletion n p q s t = ap (λ x. Some (Del x s)) (plus_zero p)

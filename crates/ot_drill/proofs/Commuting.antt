@@ -6,10 +6,12 @@ use Rattle.fn_rules.specs.Properties.{CommutesAt, commutes_exchanged, HasTp2}
 use Rattle.fn_rules.specs.Transformation.{transform_of, IsAllowed}
 use Rattle.ot_drill.specs.Workload.{drill_function}
 use Rattle.ot_drill.proofs.Places.{IsBefore, place_behind, before_stays, behind_moves, one_is_before, place_behind-both}
-use Rattle.ot_drill.proofs.Behind.{IsDeclared, insertion_behind, deletion_behind, insertion_behind_deletion, deletion_behind_deletion}
+use Rattle.ot_drill.proofs.Behind.{IsDeclared, insertion_behind, deletion_behind, insertion_behind_deletion}
+use Rattle.ot_drill.proofs.Behind.{deletion_behind_deletion}
 
 -- what a deletion becomes behind an operation
-deleted : (n : ℕ) (a : Op) (q : ℤ) (t : ℕ) → IsDeclared a → (to : ℤ) × (transform_of (drill_function n) (Del q t) a ≡ Some (Del to t))
+deleted : (n : ℕ) (a : Op) (q : ℤ) (t : ℕ) → IsDeclared a
+    → (to : ℤ) × (transform_of (drill_function n) (Del q t) a ≡ Some (Del to t))
 deleted n (Ins p c s) q t h = (place_behind q s p s, deletion_behind n q p c t s s (omega arith))
 deleted n (Del p s) q t h = (q, deletion_behind_deletion n q p t s)
 deleted n (Upd p c s) q t h = absurd (cc)
@@ -31,15 +33,18 @@ record HasForm (n : ℕ) (c a : Op) : Type 0 where
 form_behind : (n : ℕ) (c a : Op) → IsDeclared c → IsDeclared a → HasForm n c a
 form_behind n (Ins r e u) (Ins p c s) h g =
     record { form = Ins (place_behind r u p s) e u; declared = refl; is_form = insertion_behind n r p e c u s }
-form_behind n (Ins r e u) (Del p s) h g = record { form = Ins r e u; declared = refl; is_form = insertion_behind_deletion n r p e u s }
+form_behind n (Ins r e u) (Del p s) h g =
+    record { form = Ins r e u; declared = refl; is_form = insertion_behind_deletion n r p e u s }
 form_behind n (Ins r e u) (Upd p c s) h g = absurd (cc)
 form_behind n (Ins r e u) Nop h g = absurd (cc)
-form_behind n (Del r u) a h g = let found = deleted n a r u g in record { form = Del found.0 u; declared = refl; is_form = found.1 }
+form_behind n (Del r u) a h g = let found = deleted n a r u g in
+    record { form = Del found.0 u; declared = refl; is_form = found.1 }
 form_behind n (Upd r e u) a h g = absurd (cc)
 form_behind n Nop a h g = absurd (cc)
 
 -- the second operation is a deletion
-by_deletion : (n : ℕ) (a c : Op) (q : ℤ) (t : ℕ) → IsDeclared a → IsDeclared c → CommutesAt (drill_function n) a (Del q t) c
+by_deletion : (n : ℕ) (a c : Op) (q : ℤ) (t : ℕ) → IsDeclared a → IsDeclared c
+    → CommutesAt (drill_function n) a (Del q t) c
 by_deletion n a c q t of_a of_c =
     let moved = deleted n a q t of_a in
     let found = form_behind n c a of_c of_a in
@@ -77,7 +82,8 @@ ordered_insertion n p q r c d e s t u order of_s of_t =
     }
 
 -- the same, and the third is a deletion: with a rank above the two sites it moves as an insertion would
-ordered_deletion : (n : ℕ) (p q r : ℤ) (c d s t v : ℕ) → IsBefore p s q t → CommutesAt (drill_function n) (Ins p c s) (Ins q d t) (Del r v)
+ordered_deletion : (n : ℕ) (p q r : ℤ) (c d s t v : ℕ) → IsBefore p s q t
+    → CommutesAt (drill_function n) (Ins p c s) (Ins q d t) (Del r v)
 ordered_deletion n p q r c d s t v order =
     let u : ℕ = s + t + 1 in
     record {
@@ -103,14 +109,16 @@ by_kinds n (Del p s) b c of_a of_b of_c ab ac bc =
     commutes_exchanged (drill_function n) b (Del p s) c (by_deletion n b c p s of_b of_c)
 by_kinds n (Ins p x s) (Ins q y t) (Ins r z u) of_a of_b of_c ab ac bc =
     elim (one_is_before p q s t (ab.sites refl)) [
-      | inl before ↦ ordered_insertion n p q r x y z s t u before (λ e. ac.sites refl (sym e)) (λ e. bc.sites refl (sym e))
+      | inl before ↦
+          ordered_insertion n p q r x y z s t u before (λ e. ac.sites refl (sym e)) (λ e. bc.sites refl (sym e))
       | inr behind ↦ commutes_exchanged (drill_function n) (Ins q y t) (Ins p x s) (Ins r z u)
           (ordered_insertion n q p r y x z t s u behind (λ e. bc.sites refl (sym e)) (λ e. ac.sites refl (sym e)))
     ]
 by_kinds n (Ins p x s) (Ins q y t) (Del r v) of_a of_b of_c ab ac bc =
     elim (one_is_before p q s t (ab.sites refl)) [
       | inl before ↦ ordered_deletion n p q r x y s t v before
-      | inr behind ↦ commutes_exchanged (drill_function n) (Ins q y t) (Ins p x s) (Del r v) (ordered_deletion n q p r y x t s v behind)
+      | inr behind ↦ commutes_exchanged (drill_function n) (Ins q y t) (Ins p x s) (Del r v)
+          (ordered_deletion n q p r y x t s v behind)
     ]
 by_kinds n a b c of_a of_b of_c ab ac bc = absurd (cc)
 

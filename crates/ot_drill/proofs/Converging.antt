@@ -1,5 +1,6 @@
 -- The functions of the workload have the first property: both ways from two operations give one document.
-use Rattle.std.proofs.Common.{◌≡◌, ◌≢◌, ℕ, suc, ◌+◌, ◌<◌, ◌≤◌, ℤ, pos, negsuc, ◌+ℤ◌, List, length, Some, refl, ap, sym, ◌∙◌, inl, inr, arith}
+use Rattle.std.proofs.Common.{◌≡◌, ◌≢◌, ℕ, suc, ◌+◌, ◌<◌, ◌≤◌, ℤ, pos, negsuc, ◌+ℤ◌, List, length, Some, refl, ap, sym}
+use Rattle.std.proofs.Common.{◌∙◌, inl, inr, arith}
 use Rattle.std.proofs.lemmas.Bool.{cases_lt}
 use Rattle.std.proofs.lemmas.Int.{ints}
 use Rattle.ot_model.specs.declared.cell.Cell.{Cell}
@@ -12,8 +13,10 @@ use Rattle.fn_rules.specs.Properties.{ConvergesAt, converges_exchanged, HasTp1}
 use Rattle.fn_rules.specs.Transformation.{IsAllowed}
 use Rattle.ot_drill.specs.Workload.{drill_function}
 use Rattle.ot_drill.proofs.Places.{IsBefore, place_behind, before_stays, behind_moves, one_is_before}
-use Rattle.ot_drill.proofs.Edits.{put, mark, with_cells-put, with_cells-mark, length-put, length-mark, put-put, mark-put, mark-put_behind, mark-mark}
-use Rattle.ot_drill.proofs.Behind.{IsDeclared, insertion_behind, deletion_behind, insertion_behind_deletion, deletion_behind_deletion}
+use Rattle.ot_drill.proofs.Edits.{put, mark, with_cells-put, with_cells-mark, length-put, length-mark, put-put}
+use Rattle.ot_drill.proofs.Edits.{mark-put, mark-put_behind, mark-mark}
+use Rattle.ot_drill.proofs.Behind.{IsDeclared, insertion_behind, deletion_behind, insertion_behind_deletion}
+use Rattle.ot_drill.proofs.Behind.{deletion_behind_deletion}
 
 -- the document after an insertion
 put_document : (p c s : ℕ) (d : List Cell) → document_after Tomb (Ins (pos p) c s) d ≡ put p (live_cell c) d
@@ -36,8 +39,8 @@ moved_to : (p q : ℤ) (s t : ℕ) (to : ℕ) → IsBefore q t p s → p +ℤ po
 moved_to p q s t to h e = behind_moves p q s t h ∙ e
 
 -- two insertions, of which the first is before the second
-ordered_insertions : (n : ℕ) (d : List Cell) (p q c e s t : ℕ) → p ≤ length d → q ≤ length d → IsBefore (pos p) s (pos q) t →
-    ConvergesAt (drill_function n) d (Ins (pos p) c s) (Ins (pos q) e t)
+ordered_insertions : (n : ℕ) (d : List Cell) (p q c e s t : ℕ) → p ≤ length d → q ≤ length d
+    → IsBefore (pos p) s (pos q) t → ConvergesAt (drill_function n) d (Ins (pos p) c s) (Ins (pos q) e t)
 ordered_insertions n d p q c e s t fits_p fits_q order =
     let length_p = length-put_document p c s d in
     let length_q = length-put_document q e t d in
@@ -46,13 +49,15 @@ ordered_insertions n d p q c e s t fits_p fits_q order =
       a_after_b = Ins (pos p) c s;
       b_transformed = insertion_behind n (pos q) (pos p) e c t s
           ∙ ap (λ x. Some (Ins x e t)) (moved_to (pos q) (pos p) t s (suc q) order (omega (arith, ints)));
-      a_transformed = insertion_behind n (pos p) (pos q) c e s t ∙ ap (λ x. Some (Ins x c s)) (before_stays (pos p) (pos q) s t order);
+      a_transformed = insertion_behind n (pos p) (pos q) c e s t
+          ∙ ap (λ x. Some (Ins x c s)) (before_stays (pos p) (pos q) s t order);
       b_enabled = (omega (arith, ints), omega (arith, ints, length_p));
       a_enabled = (omega (arith, ints), omega (arith, ints, length_q));
       one_document = put_document (suc q) e t (document_after Tomb (Ins (pos p) c s) d)
           ∙ (ap (put (suc q) (live_cell e)) (put_document p c s d)
           ∙ (put-put p q (live_cell c) (live_cell e) d (omega (arith, ints, order.place)) fits_q
-          ∙ sym (put_document p c s (document_after Tomb (Ins (pos q) e t) d) ∙ ap (put p (live_cell c)) (put_document q e t d))));
+          ∙ sym (put_document p c s (document_after Tomb (Ins (pos q) e t) d)
+          ∙ ap (put p (live_cell c)) (put_document q e t d))));
     }
 
 -- an insertion and a deletion in front of it
@@ -61,7 +66,8 @@ deletion_in_front : (n : ℕ) (d : List Cell) (p q c s t : ℕ) → p ≤ length
 deletion_in_front n d p q c s t fits order =
     let length_p = length-put_document p c s d in
     let length_q = length-mark_document q t d in
-    let before : IsBefore (pos q) s (pos p) s = record { place = omega (arith, ints); rank = λ e. omega (arith, ints) } in
+    let before : IsBefore (pos q) s (pos p) s =
+    record { place = omega (arith, ints); rank = λ e. omega (arith, ints) } in
     record {
       b_after_a = Del (pos q) t;
       a_after_b = Ins (pos p) c s;
@@ -73,7 +79,8 @@ deletion_in_front n d p q c s t fits order =
       one_document = mark_document q t (document_after Tomb (Ins (pos p) c s) d)
           ∙ (ap (mark q) (put_document p c s d)
           ∙ (mark-put p q (live_cell c) d order fits
-          ∙ sym (put_document p c s (document_after Tomb (Del (pos q) t) d) ∙ ap (put p (live_cell c)) (mark_document q t d))));
+          ∙ sym (put_document p c s (document_after Tomb (Del (pos q) t) d)
+          ∙ ap (put p (live_cell c)) (mark_document q t d))));
     }
 
 -- an insertion and a deletion at its place or behind it
@@ -94,7 +101,8 @@ deletion_farther n d p q c s t fits order =
       one_document = mark_document (suc q) t (document_after Tomb (Ins (pos p) c s) d)
           ∙ (ap (mark (suc q)) (put_document p c s d)
           ∙ (mark-put_behind p q (live_cell c) d order
-          ∙ sym (put_document p c s (document_after Tomb (Del (pos q) t) d) ∙ ap (put p (live_cell c)) (mark_document q t d))));
+          ∙ sym (put_document p c s (document_after Tomb (Del (pos q) t) d)
+          ∙ ap (put p (live_cell c)) (mark_document q t d))));
     }
 
 -- an insertion and a deletion
@@ -136,8 +144,8 @@ two_insertions n d p q c e s t fits_p fits_q apart =
     ]
 
 -- two operations, by their kinds
-by_kinds : (n : ℕ) (d : List Cell) (a b : Op) → IsDeclared a → IsDeclared b → IsEnabled a (length d) → IsEnabled b (length d) →
-    IsAllowed (drill_function n) a b → ConvergesAt (drill_function n) d a b
+by_kinds : (n : ℕ) (d : List Cell) (a b : Op) → IsDeclared a → IsDeclared b → IsEnabled a (length d)
+    → IsEnabled b (length d) → IsAllowed (drill_function n) a b → ConvergesAt (drill_function n) d a b
 by_kinds n d (Upd p c s) b of_a of_b at_a at_b ab = absurd (cc)
 by_kinds n d Nop b of_a of_b at_a at_b ab = absurd (cc)
 by_kinds n d a (Upd q e t) of_a of_b at_a at_b ab = absurd (cc)

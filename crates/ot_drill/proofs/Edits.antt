@@ -1,5 +1,6 @@
 -- Insertions and tombstones as recursions on the document.
-use Rattle.std.proofs.Common.{◌≡◌, ℕ, zero, suc, ◌+◌, ◌<◌, ◌≤◌, List, [], ◌∷◌, length, take, drop, map, refl, ap, ◌∙◌, arith}
+use Rattle.std.proofs.Common.{◌≡◌, ℕ, zero, suc, ◌+◌, ◌<◌, ◌≤◌, List, [], ◌∷◌, length, take, drop, map, refl, ap, ◌∙◌}
+use Rattle.std.proofs.Common.{arith}
 use Rattle.ot_model.specs.declared.cell.Cell.{Cell}
 use Rattle.ot_model.specs.Cells.{dead_cell, with_cells}
 
@@ -16,7 +17,8 @@ mark zero (y ∷ d) = dead_cell y ∷ d
 mark (suc n) (y ∷ d) = y ∷ mark n d
 
 -- the edit behind the first cell
-with_cells-suc : (n count : ℕ) (cells d : List Cell) (y : Cell) → with_cells (suc n) count cells (y ∷ d) ≡ y ∷ with_cells n count cells d
+with_cells-suc : (n count : ℕ) (cells d : List Cell) (y : Cell)
+    → with_cells (suc n) count cells (y ∷ d) ≡ y ∷ with_cells n count cells d
 with_cells-suc n count cells d y = let next : suc n + count ≡ suc (n + count) = omega arith in rw next refl
 
 -- the edit that is an insertion
@@ -46,7 +48,8 @@ length-mark zero (y ∷ d) = refl
 length-mark (suc n) (y ∷ d) = ap suc (length-mark n d)
 
 -- two insertions, the one at the smaller place first or last
-pub put-put : (m n : ℕ) (x y : Cell) (d : List Cell) → m ≤ n → n ≤ length d → put (suc n) y (put m x d) ≡ put m x (put n y d)
+pub put-put : (m n : ℕ) (x y : Cell) (d : List Cell) → m ≤ n → n ≤ length d
+    → put (suc n) y (put m x d) ≡ put m x (put n y d)
 put-put zero n x y d order fits = refl
 put-put (suc m) zero x y d order fits = absurd (omega arith)
 put-put (suc m) (suc n) x y [] order fits = absurd (omega arith)

@@ -36,7 +36,8 @@ module _ (past : Past) (few : (s : ℕ) → made_at past s ≤ 16) where
       let newest = choices_of (maker past n) (makers n (omega arith)) in
       omega arith
 
-  pub few_forms : past.count ≤ 48 → ((o : ℕ) → o < past.count → IsSite 3 (maker past o)) → most_forms past 3 ≤ 48 * 17 * 17
+  pub few_forms : past.count ≤ 48 → ((o : ℕ) → o < past.count → IsSite 3 (maker past o))
+      → most_forms past 3 ≤ 48 * 17 * 17
   few_forms count makers =
       let all = below past.count makers in
       omega arith

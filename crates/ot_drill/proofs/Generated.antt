@@ -17,7 +17,8 @@ blocks_are_buildable n few = passes (λ k. is_buildable (by_sites Tomb) (drill_b
 -- which keeps the limits
 pub functions_are_valid : (n : ℕ) → n ≤ 16 → is_valid (drill_function n) ≡ true
 functions_are_valid n few =
-    (and_parts (has_own_blocks (by_sites Tomb) (drill_blocks n)) (is_valid (drill_function n)) (blocks_are_buildable n few)).1
+    (and_parts (has_own_blocks (by_sites Tomb) (drill_blocks n)) (is_valid (drill_function n))
+    (blocks_are_buildable n few)).1
 
 -- no event is refused
 pub events_are_fine : (n : ℕ) → n ≤ 16 → are_fine none_made (drill_events n) ≡ true

@@ -1,5 +1,6 @@
 -- Places behind insertions: the smaller place stays, and at one place the smaller rank.
-use Rattle.std.proofs.Common.{◌≡◌, ◌≢◌, ℕ, ◌<◌, ℤ, pos, ◌+ℤ◌, ◌≤ℤ◌, true, false, ◌&&◌, ◌||◌, if◌then◌else◌, int_lt, nat_lt, inl, inr, ◌⊎◌, arith}
+use Rattle.std.proofs.Common.{◌≡◌, ◌≢◌, ℕ, ◌<◌, ℤ, pos, ◌+ℤ◌, ◌≤ℤ◌, true, false, ◌&&◌, ◌||◌, if◌then◌else◌, int_lt}
+use Rattle.std.proofs.Common.{nat_lt, inl, inr, ◌⊎◌, arith}
 use Rattle.std.specs.Ordering.{int_eq}
 use Rattle.std.proofs.lemmas.Bool.{cases_Bool, cases_lt}
 use Rattle.std.proofs.lemmas.Int.{ints}
@@ -46,7 +47,8 @@ one_is_before p q s t apart =
     ]
 
 -- one that comes before the first of two comes before the second, moved up or not
-first_of_three : (p q r : ℤ) (s t u : ℕ) → IsBefore p s q t → IsBefore r u p s → IsBefore r u q t × IsBefore r u (q +ℤ pos 1) t
+first_of_three : (p q r : ℤ) (s t u : ℕ) → IsBefore p s q t → IsBefore r u p s
+    → IsBefore r u q t × IsBefore r u (q +ℤ pos 1) t
 first_of_three p q r s t u h g = (
   record { place = grind (arith, ints); rank = λ e. grind (arith, ints) },
   record { place = grind (arith, ints); rank = λ e. grind (arith, ints) },
@@ -57,7 +59,8 @@ moved_before : (r q : ℤ) (u t : ℕ) → IsBefore r u q t → IsBefore (r +ℤ
 moved_before r q u t h = record { place = grind (arith, ints); rank = λ e. grind (arith, ints) }
 
 -- the first of two comes before one behind the second, moved up or not
-last_of_three : (p q r : ℤ) (s t u : ℕ) → IsBefore p s q t → IsBefore q t r u → IsBefore p s r u × IsBefore p s (r +ℤ pos 1) u
+last_of_three : (p q r : ℤ) (s t u : ℕ) → IsBefore p s q t → IsBefore q t r u
+    → IsBefore p s r u × IsBefore p s (r +ℤ pos 1) u
 last_of_three p q r s t u h g = (
   record { place = grind (arith, ints); rank = λ e. grind (arith, ints) },
   record { place = grind (arith, ints); rank = λ e. grind (arith, ints) },

@@ -1,6 +1,6 @@
 -- A session that stands at counts: what may be done in it, and where it stands behind an event.
-use Rattle.std.proofs.Common.{◌≡◌, ◌≢◌, ◌<◌, ◌≤◌, ◌+◌, ◌*◌, ◌⊎◌, ℕ, zero, suc, Bool, true, false, List, [], ◌∷◌, length, Some, Ok, refl, sym, ap, ◌∙◌, subst}
-use Rattle.std.proofs.Common.{inl, inr, arith, add-one}
+use Rattle.std.proofs.Common.{◌≡◌, ◌≢◌, ◌<◌, ◌≤◌, ◌+◌, ◌*◌, ◌⊎◌, ℕ, zero, suc, Bool, true, false, List, [], ◌∷◌, length}
+use Rattle.std.proofs.Common.{Some, Ok, refl, sym, ap, ◌∙◌, subst, inl, inr, arith, add-one}
 use Rattle.std.specs.Prelude.{pos, ◌&&◌, not, nat_eq, nat_le, nat_lt, if◌then◌else◌}
 use Rattle.std.specs.Ordering.{int_eq}
 use Rattle.std.proofs.lemmas.Bool.{and_parts, cases_eq}
@@ -24,7 +24,8 @@ use Rattle.ot_session.specs.declared.made.Made.{Made}
 use Rattle.ot_session.specs.Past.{past_of}
 use Rattle.ot_session.specs.Views.{View, data_in, HasMade, HasTaken}
 use Rattle.ot_drill.specs.declared.tally.Tally.{Tally}
-use Rattle.ot_drill.specs.FineEvents.{CanBeDone, MadeCounts, HasFewForms, IsDrillFunction, SessionStands, counts_behind, is_front_operation, is_fine, is_site}
+use Rattle.ot_drill.specs.FineEvents.{CanBeDone, MadeCounts, HasFewForms, IsDrillFunction, SessionStands, counts_behind}
+use Rattle.ot_drill.specs.FineEvents.{is_front_operation, is_fine, is_site}
 use Rattle.ot_drill.specs.Playing.{IsPlayed}
 use Rattle.ot_drill.specs.Workload.{drill_function}
 use Rattle.ot_drill.proofs.FewForms.{few_forms}
@@ -85,7 +86,8 @@ front_by c s (Ins at ch site) h =
 front_by c s (Del at site) h =
     let outer : ((int_eq at (pos 0) && nat_eq site s) ≡ true) × (nat_lt 0 (c.made s) ≡ true) =
     and_parts (int_eq at (pos 0) && nat_eq site s) (nat_lt 0 (c.made s)) h in
-    let both : (int_eq at (pos 0) ≡ true) × (nat_eq site s ≡ true) = and_parts (int_eq at (pos 0)) (nat_eq site s) outer.0 in
+    let both : (int_eq at (pos 0) ≡ true) × (nat_eq site s ≡ true) =
+    and_parts (int_eq at (pos 0)) (nat_eq site s) outer.0 in
     let front : at ≡ pos 0 = (Decides-int_eq at (pos 0)).0 both.0 in
     let own : site ≡ s = eq_by site s both.1 in
     rw (front, own) (deletion (c.made s) s (lt_by 0 (c.made s) outer.1))
@@ -149,11 +151,13 @@ module _ (v : View) (c : MadeCounts) (stands : SessionStands v c) where
         let total = stands.total in let few = may.few in omega arith,
       )
   can_be_done (Take s number) is fine =
-      let both : (is_site s ≡ true) × (nat_lt number c.total ≡ true) = and_parts (is_site s) (nat_lt number c.total) fine in
+      let both : (is_site s ≡ true) × (nat_lt number c.total ≡ true) =
+      and_parts (is_site s) (nat_lt number c.total) fine in
       let three : length v.sites ≡ 3 = stands.sites in (
         is_site_of s (site_by s both.0),
         let total = stands.total in let below = lt_by number c.total both.1 in omega arith,
-        let most = has_few_forms.most in rw three (let few : most_forms (past_of v.made) 3 ≤ 48 * 17 * 17 = rw three at most in omega arith),
+        let most = has_few_forms.most in
+            rw three (let few : most_forms (past_of v.made) 3 ≤ 48 * 17 * 17 = rw three at most in omega arith),
       )
 
 -- what was made earlier counts as it did
@@ -167,7 +171,8 @@ made_among-extends old new s (suc n) more within =
 
 -- one that a site made counts there
 made_at-more :
-    (old new : Past) (s t : ℕ) (o : Op) → Extends old new → new.count ≡ old.count + 1 → new.operation old.count ≡ o → site_of o ≡ Some s
+    (old new : Past) (s t : ℕ) (o : Op) → Extends old new → new.count ≡ old.count + 1
+    → new.operation old.count ≡ o → site_of o ≡ Some s
     → made_at new t ≡ made_at old t + (if nat_eq s t then 1 else 0)
 made_at-more old new s t o more count is own =
     let older = made_among-extends old new t old.count more (omega arith) in
@@ -186,14 +191,16 @@ more_cases s t =
     ]
 
 -- the counts behind an operation that is made
-module _ (v new : View) (c : MadeCounts) (s n : ℕ) (o : Op) (stands : SessionStands v c) (is : IsDrillFunction v.function)
+module _ (v new : View) (c : MadeCounts) (s n : ℕ) (o : Op) (stands : SessionStands v c)
+    (is : IsDrillFunction v.function)
     (may : MayBeMade c s o) (done : HasMade v new s o n) where
   made_by_site : Makes v.function (data_in v) (data_in new) s o
   made_by_site = done.makes
 
   made_then : (t : ℕ) → made_at (past_of new.made) t ≡ c.made t + more_at s t
   made_then t =
-      made_at-more (past_of v.made) (past_of new.made) s t o made_by_site.extends made_by_site.count made_by_site.operation may.front.own
+      made_at-more (past_of v.made) (past_of new.made) s t o made_by_site.extends made_by_site.count
+      made_by_site.operation may.front.own
       ∙ ap (λ m. m + more_at s t) (stands.made t)
 
   -- each operation is made by one of the three sites
@@ -202,11 +209,13 @@ module _ (v new : View) (c : MadeCounts) (s n : ℕ) (o : Op) (stands : SessionS
       let count : length new.made ≡ length v.made + 1 = made_by_site.count in
       elim (cases_eq t (length v.made)) as (λ _. IsSite 3 (maker (past_of new.made) t)) [
         | inl same ↦ rw same
-            (let mine : maker (past_of new.made) (length v.made) ≡ s = rw made_by_site.operation (rw may.front.own refl) in
+            (let mine : maker (past_of new.made) (length v.made) ≡ s =
+            rw made_by_site.operation (rw may.front.own refl) in
             rw mine may.site)
         | inr other ↦
             (let older : t < length v.made = omega (arith, other) in
-            let as_was : (past_of new.made).operation t ≡ (past_of v.made).operation t = made_by_site.extends.operations t older in
+            let as_was : (past_of new.made).operation t ≡ (past_of v.made).operation t =
+            made_by_site.extends.operations t older in
             rw as_was (stands.makers t older))
       ]
 
@@ -220,7 +229,8 @@ module _ (v new : View) (c : MadeCounts) (s n : ℕ) (o : Op) (stands : SessionS
       ]
 
   -- each site that has made an operation has a cell, while none was taken
-  cells_then : c.taking ≡ false → (t : ℕ) → IsSite 3 t → 0 < c.made t + more_at s t → 0 < length ((data_in new).document t)
+  cells_then : c.taking ≡ false → (t : ℕ) → IsSite 3 t → 0 < c.made t + more_at s t
+      → 0 < length ((data_in new).document t)
   cells_then early t site some =
       elim (more_cases s t) as (λ _. 0 < length ((data_in new).document t)) [
         | inl mine ↦ rw mine.0
@@ -230,14 +240,16 @@ module _ (v new : View) (c : MadeCounts) (s n : ℕ) (o : Op) (stands : SessionS
         | inr other ↦
             (let none = other.1 in
             let older : 0 < c.made t = omega arith in
-            rw (made_by_site.keeps.documents t (is_site_of v c stands t site) other.0) (stands.filled early t site older))
+            rw (made_by_site.keeps.documents t (is_site_of v c stands t site) other.0)
+            (stands.filled early t site older))
       ]
 
   behind_made : SessionStands new (counts_behind c (Make s o))
   behind_made = record {
     is_open = done.is_open ∙ stands.is_open;
     sites = made_by_site.keeps.sites ∙ stands.sites;
-    total = let count : length new.made ≡ length v.made + 1 = made_by_site.count in let total = stands.total in omega arith;
+    total = let count : length new.made ≡ length v.made + 1 = made_by_site.count in
+        let total = stands.total in omega arith;
     made = made_then;
     makers = makers_then;
     few = let few = may.few in omega arith;
@@ -246,7 +258,8 @@ module _ (v new : View) (c : MadeCounts) (s n : ℕ) (o : Op) (stands : SessionS
   }
 
 -- the counts behind an operation that is taken
-behind_taken : (v new : View) (c : MadeCounts) (s n : ℕ) (took : Took) → SessionStands v c → HasTaken v new s n (Ok took)
+behind_taken : (v new : View) (c : MadeCounts) (s n : ℕ) (took : Took) → SessionStands v c
+    → HasTaken v new s n (Ok took)
     → SessionStands new (counts_behind c (Take s n))
 behind_taken v new c s n took stands taken =
     let made : new.made ≡ v.made = ap (λ (w : View). w.made) taken.is in
@@ -256,7 +269,8 @@ behind_taken v new c s n took stands taken =
       sites = ap (λ (w : View). length w.sites) taken.is ∙ length-set _ _ _ ∙ stands.sites;
       total = ap (λ l. length l) made ∙ stands.total;
       made = λ t. ap (λ p. made_at p t) past ∙ stands.made t;
-      makers = subst (λ (l : List Made). (o : ℕ) → o < length l → IsSite 3 (maker (past_of l) o)) (sym made) stands.makers;
+      makers =
+          subst (λ (l : List Made). (o : ℕ) → o < length l → IsSite 3 (maker (past_of l) o)) (sym made) stands.makers;
       few = stands.few;
       few_at = stands.few_at;
       filled = λ early. cc;
@@ -264,14 +278,17 @@ behind_taken v new c s n took stands taken =
 
 -- the counts behind an event
 pub stands_behind :
-    (v new : View) (c : MadeCounts) (tally new_tally : Tally) (event : Event) → SessionStands v c → IsDrillFunction v.function
+    (v new : View) (c : MadeCounts) (tally new_tally : Tally) (event : Event) → SessionStands v c
+    → IsDrillFunction v.function
     → is_fine c event ≡ true → IsPlayed v tally event new new_tally → SessionStands new (counts_behind c event)
 stands_behind v new c tally new_tally (Make s o) stands is fine played =
     behind_made v new c s played.0 o stands is (may_be_made c s o fine) played.1
-stands_behind v new c tally new_tally (Take s n) stands is fine played = behind_taken v new c s n played.0 stands played.1
+stands_behind v new c tally new_tally (Take s n) stands is fine played =
+    behind_taken v new c s n played.0 stands played.1
 
 -- an event keeps the function
 pub function_behind :
-    (v new : View) (tally new_tally : Tally) (event : Event) → IsPlayed v tally event new new_tally → new.function ≡ v.function
+    (v new : View) (tally new_tally : Tally) (event : Event) → IsPlayed v tally event new new_tally
+    → new.function ≡ v.function
 function_behind v new tally new_tally (Make s o) played = played.1.function
 function_behind v new tally new_tally (Take s n) played = ap (λ (w : View). w.function) played.1.is

@@ -6,7 +6,8 @@ use Rattle.std.proofs.lemmas.List.{map-append, take_more}
 use Rattle.std.proofs.lemmas.List.Sums.{sum_by-append}
 
 -- one more item
-pub sum_more : {X : Type 0} (f : X → ℕ) (xs : List X) (i count more : ℕ) (d : X) → i < length xs → count ≡ sum (map f (take i xs))
+pub sum_more : {X : Type 0} (f : X → ℕ) (xs : List X) (i count more : ℕ) (d : X) → i < length xs
+    → count ≡ sum (map f (take i xs))
     → more ≡ f (get_or xs i d) → count + more ≡ sum (map f (take (i + 1) xs))
 sum_more f xs i count more d within is same =
     let front : List ℕ = map f (take i xs) in

@@ -37,7 +37,8 @@ module _ (y x i j : ℕ) (apart : x ≢ y) where
   behind_the_deleted b a (inr (suc zero, there, of_b)) (inl of_a) same =
       absurd (let e : y ∷ [] ≡ [] = same_characters b a (Del (pos 1) j) Nop _ _ same of_b of_a in cc)
   behind_the_deleted b a (inr (suc zero, there, of_b)) (inr (zero, at, of_a)) same =
-      absurd (apart (let e : y ∷ [] ≡ x ∷ [] = same_characters b a (Del (pos 1) j) (Ins (pos 0) x i) _ _ same of_b of_a in cc))
+      absurd (apart (let e : y ∷ [] ≡ x ∷ [] =
+      same_characters b a (Del (pos 1) j) (Ins (pos 0) x i) _ _ same of_b of_a in cc))
   behind_the_deleted b a (inr (suc (suc q), there, of_b)) of_a same = absurd (omega (arith, there))
   behind_the_deleted b a of_b (inr (suc p, at, of_a)) same = absurd (omega (arith, at))
 
@@ -53,7 +54,8 @@ module _ (y x i j : ℕ) (apart : x ≢ y) where
   before_the_deleted b a (inr (zero, there, of_b)) (inl of_a) same =
       absurd (let e : y ∷ [] ≡ [] = same_characters b a (Del (pos 0) j) Nop _ _ same of_b of_a in cc)
   before_the_deleted b a (inr (zero, there, of_b)) (inr (zero, at, of_a)) same =
-      absurd (apart (let e : y ∷ [] ≡ x ∷ [] = same_characters b a (Del (pos 0) j) (Ins (pos 0) x i) _ _ same of_b of_a in cc))
+      absurd (apart (let e : y ∷ [] ≡ x ∷ [] =
+      same_characters b a (Del (pos 0) j) (Ins (pos 0) x i) _ _ same of_b of_a in cc))
   before_the_deleted b a (inr (suc zero, there, of_b)) (inl of_a) same =
       absurd (let e : x ∷ [] ≡ [] = same_characters b a (Del (pos 1) j) Nop _ _ same of_b of_a in cc)
   before_the_deleted b a (inr (suc zero, there, of_b)) (inr (zero, at, of_a)) same = (of_a, of_b)
@@ -78,25 +80,33 @@ module _ (y x z i k : ℕ) (x_is_not_y : x ≢ y) (z_is_not_y : z ≢ y) (x_is_n
   both_inserted c a (inr (zero, there, of_c)) (inl of_a) same =
       absurd (let e : z ∷ y ∷ x ∷ [] ≡ z ∷ y ∷ [] = same_characters c a (Ins (pos 0) z k) Nop _ _ same of_c of_a in cc)
   both_inserted c a (inr (zero, there, of_c)) (inr (zero, at, of_a)) same =
-      absurd (x_is_not_z (let e : z ∷ y ∷ x ∷ [] ≡ x ∷ z ∷ y ∷ [] = same_characters c a (Ins (pos 0) z k) (Ins (pos 0) x i) _ _ same of_c of_a in cc))
+      absurd (x_is_not_z (let e : z ∷ y ∷ x ∷ [] ≡ x ∷ z ∷ y ∷ [] =
+      same_characters c a (Ins (pos 0) z k) (Ins (pos 0) x i) _ _ same of_c of_a in cc))
   both_inserted c a (inr (zero, there, of_c)) (inr (suc zero, at, of_a)) same =
-      absurd (x_is_not_y (let e : z ∷ y ∷ x ∷ [] ≡ z ∷ x ∷ y ∷ [] = same_characters c a (Ins (pos 0) z k) (Ins (pos 1) x i) _ _ same of_c of_a in cc))
+      absurd (x_is_not_y (let e : z ∷ y ∷ x ∷ [] ≡ z ∷ x ∷ y ∷ [] =
+      same_characters c a (Ins (pos 0) z k) (Ins (pos 1) x i) _ _ same of_c of_a in cc))
   both_inserted c a (inr (zero, there, of_c)) (inr (suc (suc zero), at, of_a)) same = of_c
   both_inserted c a (inr (suc zero, there, of_c)) (inl of_a) same =
       absurd (let e : y ∷ z ∷ x ∷ [] ≡ z ∷ y ∷ [] = same_characters c a (Ins (pos 1) z k) Nop _ _ same of_c of_a in cc)
   both_inserted c a (inr (suc zero, there, of_c)) (inr (zero, at, of_a)) same =
-      absurd (x_is_not_y (let e : y ∷ z ∷ x ∷ [] ≡ x ∷ z ∷ y ∷ [] = same_characters c a (Ins (pos 1) z k) (Ins (pos 0) x i) _ _ same of_c of_a in cc))
+      absurd (x_is_not_y (let e : y ∷ z ∷ x ∷ [] ≡ x ∷ z ∷ y ∷ [] =
+      same_characters c a (Ins (pos 1) z k) (Ins (pos 0) x i) _ _ same of_c of_a in cc))
   both_inserted c a (inr (suc zero, there, of_c)) (inr (suc zero, at, of_a)) same =
-      absurd (z_is_not_y (let e : y ∷ z ∷ x ∷ [] ≡ z ∷ x ∷ y ∷ [] = same_characters c a (Ins (pos 1) z k) (Ins (pos 1) x i) _ _ same of_c of_a in cc))
+      absurd (z_is_not_y (let e : y ∷ z ∷ x ∷ [] ≡ z ∷ x ∷ y ∷ [] =
+      same_characters c a (Ins (pos 1) z k) (Ins (pos 1) x i) _ _ same of_c of_a in cc))
   both_inserted c a (inr (suc zero, there, of_c)) (inr (suc (suc zero), at, of_a)) same =
-      absurd (z_is_not_y (let e : y ∷ z ∷ x ∷ [] ≡ z ∷ y ∷ x ∷ [] = same_characters c a (Ins (pos 1) z k) (Ins (pos 2) x i) _ _ same of_c of_a in cc))
+      absurd (z_is_not_y (let e : y ∷ z ∷ x ∷ [] ≡ z ∷ y ∷ x ∷ [] =
+      same_characters c a (Ins (pos 1) z k) (Ins (pos 2) x i) _ _ same of_c of_a in cc))
   both_inserted c a (inr (suc (suc zero), there, of_c)) (inl of_a) same =
       absurd (let e : y ∷ x ∷ z ∷ [] ≡ z ∷ y ∷ [] = same_characters c a (Ins (pos 2) z k) Nop _ _ same of_c of_a in cc)
   both_inserted c a (inr (suc (suc zero), there, of_c)) (inr (zero, at, of_a)) same =
-      absurd (x_is_not_y (let e : y ∷ x ∷ z ∷ [] ≡ x ∷ z ∷ y ∷ [] = same_characters c a (Ins (pos 2) z k) (Ins (pos 0) x i) _ _ same of_c of_a in cc))
+      absurd (x_is_not_y (let e : y ∷ x ∷ z ∷ [] ≡ x ∷ z ∷ y ∷ [] =
+      same_characters c a (Ins (pos 2) z k) (Ins (pos 0) x i) _ _ same of_c of_a in cc))
   both_inserted c a (inr (suc (suc zero), there, of_c)) (inr (suc zero, at, of_a)) same =
-      absurd (z_is_not_y (let e : y ∷ x ∷ z ∷ [] ≡ z ∷ x ∷ y ∷ [] = same_characters c a (Ins (pos 2) z k) (Ins (pos 1) x i) _ _ same of_c of_a in cc))
+      absurd (z_is_not_y (let e : y ∷ x ∷ z ∷ [] ≡ z ∷ x ∷ y ∷ [] =
+      same_characters c a (Ins (pos 2) z k) (Ins (pos 1) x i) _ _ same of_c of_a in cc))
   both_inserted c a (inr (suc (suc zero), there, of_c)) (inr (suc (suc zero), at, of_a)) same =
-      absurd (z_is_not_y (let e : y ∷ x ∷ z ∷ [] ≡ z ∷ y ∷ x ∷ [] = same_characters c a (Ins (pos 2) z k) (Ins (pos 2) x i) _ _ same of_c of_a in cc))
+      absurd (z_is_not_y (let e : y ∷ x ∷ z ∷ [] ≡ z ∷ y ∷ x ∷ [] =
+      same_characters c a (Ins (pos 2) z k) (Ins (pos 2) x i) _ _ same of_c of_a in cc))
   both_inserted c a (inr (suc (suc (suc q)), there, of_c)) of_a same = absurd (omega (arith, there))
   both_inserted c a of_c (inr (suc (suc (suc p)), at, of_a)) same = absurd (omega (arith, at))

@@ -14,7 +14,8 @@ use Rattle.ot_model.specs.Cells.{live_cell}
 use Rattle.fn_rules.specs.declared.function.Head.{Head}
 use Rattle.fn_rules.specs.Properties.{AreConcurrent}
 use Rattle.ot_heads.specs.Heads.{InsertsAndDeletesOnPlain}
-use Rattle.ot_heads.specs.Transformations.{Transformation, KeepsOperations, function_with, ConvergesUnder, CommutesUnder, HasTp1Of, HasTp2Of}
+use Rattle.ot_heads.specs.Transformations.{Transformation, KeepsOperations, function_with, ConvergesUnder}
+use Rattle.ot_heads.specs.Transformations.{CommutesUnder, HasTp1Of, HasTp2Of}
 use Rattle.ot_heads.proofs.Forms.{insertion_within, deletion_within}
 use Rattle.ot_heads.proofs.Alone.{same_characters, behind_the_deleted, before_the_deleted, both_inserted}
 
@@ -39,7 +40,8 @@ one_front m n others rest same = cc
 module _ (head : Head) (t : Transformation) (is : InsertsAndDeletesOnPlain head) (keeps : KeepsOperations t)
     (tp1 : HasTp1Of head t) (tp2 : HasTp2Of head t) where
   -- TP1 on plain text
-  converge : (d : List Cell) (a b : Op) → AreConcurrent (function_with head) d (a ∷ b ∷ []) → ConvergesUnder Plain t d a b
+  converge : (d : List Cell) (a b : Op) → AreConcurrent (function_with head) d (a ∷ b ∷ [])
+      → ConvergesUnder Plain t d a b
   converge d a b are = subst (λ (m : Mode). ConvergesUnder m t d a b) is.plain (tp1 d a b are)
 
   -- an insertion and the deletion are concurrent
@@ -71,8 +73,10 @@ module _ (head : Head) (t : Transformation) (is : InsertsAndDeletesOnPlain head)
       converge alone (Ins (pos 1) x i) deletion (with_deletion 1 x i (omega arith) site) in
       let forms =
       behind_the_deleted 121 x i 2 char at.b_after_a at.a_after_b
-      (deletion_within (pos 0) 2 2 at.b_after_a (keeps deletion (Ins (pos 1) x i) at.b_after_a at.b_transformed) at.b_enabled)
-      (insertion_within (pos 1) x i 0 at.a_after_b (keeps (Ins (pos 1) x i) deletion at.a_after_b at.a_transformed) at.a_enabled)
+      (deletion_within (pos 0) 2 2 at.b_after_a
+      (keeps deletion (Ins (pos 1) x i) at.b_after_a at.b_transformed) at.b_enabled)
+      (insertion_within (pos 1) x i 0 at.a_after_b
+      (keeps (Ins (pos 1) x i) deletion at.a_after_b at.a_transformed) at.a_enabled)
       at.one_document in (
         at.a_transformed ∙ ap (λ (o : Op). Some o) forms.0,
         at.b_transformed ∙ ap (λ (o : Op). Some o) forms.1,
@@ -85,9 +89,9 @@ module _ (head : Head) (t : Transformation) (is : InsertsAndDeletesOnPlain head)
       converge alone (Ins (pos 0) z k) deletion (with_deletion 0 z k (omega arith) site) in
       let forms =
       before_the_deleted 121 z k 2 char at.b_after_a at.a_after_b
-      (deletion_within (pos 0) 2 2 at.b_after_a (keeps deletion (Ins (pos 0) z k) at.b_after_a at.b_transformed) at.b_enabled)
-      (insertion_within (pos 0) z k 0 at.a_after_b (keeps (Ins (pos 0) z k) deletion at.a_after_b at.a_transformed) at.a_enabled)
-      at.one_document in
+      (deletion_within (pos 0) 2 2 at.b_after_a (keeps deletion (Ins (pos 0) z k) at.b_after_a at.b_transformed)
+      at.b_enabled) (insertion_within (pos 0) z k 0 at.a_after_b
+      (keeps (Ins (pos 0) z k) deletion at.a_after_b at.a_transformed) at.a_enabled) at.one_document in
       at.a_transformed ∙ ap (λ (o : Op). Some o) forms.0
 
   module _ (x i z k : ℕ) (x_is_not_y : x ≢ 121) (z_is_not_y : z ≢ 121) (x_is_not_z : x ≢ z) (i_is_not_2 : i ≢ 2)
@@ -112,7 +116,10 @@ module _ (head : Head) (t : Transformation) (is : InsertsAndDeletesOnPlain head)
     three = (
       is.inserts,
       (omega (arith, ints), omega (arith, ints)),
-      (record { sites = λ _. i_is_not_2; chars = λ _. tt }, (record { sites = λ _. i_is_not_k; chars = λ _. x_is_not_z }, tt)),
+      (
+        record { sites = λ _. i_is_not_2; chars = λ _. tt },
+        (record { sites = λ _. i_is_not_k; chars = λ _. x_is_not_z }, tt),
+      ),
       (
         is.deletes,
         (omega (arith, ints), omega (arith, ints)),
@@ -124,7 +131,8 @@ module _ (head : Head) (t : Transformation) (is : InsertsAndDeletesOnPlain head)
     -- so z stays in front of x at one place
     stays : t (Ins (pos 0) z k) (Ins (pos 0) x i) ≡ Some (Ins (pos 0) z k)
     stays =
-        let both : CommutesUnder t (Ins (pos 1) x i) deletion (Ins (pos 0) z k) = tp2 alone (Ins (pos 1) x i) deletion (Ins (pos 0) z k) three in
+        let both : CommutesUnder t (Ins (pos 1) x i) deletion (Ins (pos 0) z k) =
+        tp2 alone (Ins (pos 1) x i) deletion (Ins (pos 0) z k) three in
         let x_then = behind x i x_is_not_y i_is_not_2 in
         let z_then = before z k z_is_not_y k_is_not_2 in
         let b_transformed = both.b_transformed in
@@ -149,13 +157,14 @@ module _ (head : Head) (t : Transformation) (is : InsertsAndDeletesOnPlain head)
       (λ e. omega (arith, e)) (λ e. omega (arith, e)) in
       let at : ConvergesUnder Plain t [] (Ins (pos 0) 120 1) (Ins (pos 0) 122 3) =
       converge [] (Ins (pos 0) 120 1) (Ins (pos 0) 122 3)
-      (two_insertions [] 0 0 120 1 122 3 0 (omega arith) (omega arith) (omega arith) (λ e. omega (arith, e)) (λ e. omega (arith, e))) in
+      (two_insertions [] 0 0 120 1 122 3 0 (omega arith) (omega arith) (omega arith) (λ e. omega (arith, e))
+      (λ e. omega (arith, e))) in
       let z_transformed = at.b_transformed in
       let x_transformed = at.a_transformed in
       let z_is : at.b_after_a ≡ Ins (pos 0) 122 3 = cc in
       let x_is : at.a_after_b ≡ Ins (pos 0) 120 1 = cc in
       let one : zx ≡ xz =
-      same_characters at.b_after_a at.a_after_b (Ins (pos 0) 122 3) (Ins (pos 0) 120 1) (live_cell 120 ∷ []) (live_cell 122 ∷ [])
-      at.one_document z_is x_is in
+      same_characters at.b_after_a at.a_after_b (Ins (pos 0) 122 3) (Ins (pos 0) 120 1) (live_cell 120 ∷ [])
+      (live_cell 122 ∷ []) at.one_document z_is x_is in
       let front = one_front 122 120 (120 ∷ []) (122 ∷ []) one in
       omega (arith, front)

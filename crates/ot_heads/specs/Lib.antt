@@ -1,2 +1,3 @@
 pub mod Transformations
 pub mod Heads
+pub mod Templates

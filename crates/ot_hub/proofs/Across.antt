@@ -14,7 +14,8 @@ use Rattle.ot_hub.specs.Chains.{document_after_all, IsChain, IsAllowedWith, Carr
 
 module _ (f : Function) (keeps : KeepsForms f) (converging : ConvergesOnForms f) where
   -- a form is allowed with whatever its operation was allowed with
-  IsAllowedWith-form : (o form : Op) → ((other : Op) → IsAllowed f o other → IsAllowed f form other) → (list : List PlacedOp)
+  IsAllowedWith-form : (o form : Op)
+      → ((other : Op) → IsAllowed f o other → IsAllowed f form other) → (list : List PlacedOp)
       → IsAllowedWith f o list → IsAllowedWith f form list
   IsAllowedWith-form o form kept [] allowed = tt
   IsAllowedWith-form o form kept (b ∷ bs) allowed = (kept b.op allowed.0, IsAllowedWith-form o form kept bs allowed.1)
@@ -24,7 +25,8 @@ module _ (f : Function) (keeps : KeepsForms f) (converging : ConvergesOnForms f)
       → crossed f o b ≡ Some (record { own = converges.a_after_b; other = converges.b_after_a })
   crossed-converging d o b converges = rw (converges.a_transformed, converges.b_transformed) refl
 
-  kept : (d : List Cell) (o b other : Op) (converges : ConvergesAt f d o b) → IsAllowed f o other → IsAllowed f converges.a_after_b other
+  kept : (d : List Cell) (o b other : Op) (converges : ConvergesAt f d o b) → IsAllowed f o other
+      → IsAllowed f converges.a_after_b other
   kept d o b other converges = keeps.allowed o b converges.a_after_b other converges.a_transformed
 
   IsIntegrable-form : (d : List Cell) (o b : Op) (converges : ConvergesAt f d o b) → IsIntegrable f (length d) o
@@ -35,7 +37,8 @@ module _ (f : Function) (keeps : KeepsForms f) (converging : ConvergesOnForms f)
   }
 
   -- one more before the list
-  CarriesAcross-more : (d : List Cell) (o : Op) (b : PlacedOp) (bs : List PlacedOp) → IsIntegrable f (length d) b.op → (converges : ConvergesAt f d o b.op)
+  CarriesAcross-more : (d : List Cell) (o : Op) (b : PlacedOp) (bs : List PlacedOp) → IsIntegrable f (length d) b.op
+      → (converges : ConvergesAt f d o b.op)
       → CarriesAcross f (document_after f.head.mode b.op d) converges.a_after_b bs → CarriesAcross f d o (b ∷ bs)
   CarriesAcross-more d o b bs integrable converges rest = record {
     carried = carried_behind (record b { op = converges.b_after_a } ∷ []) rest.carried;
@@ -53,7 +56,8 @@ module _ (f : Function) (keeps : KeepsForms f) (converging : ConvergesOnForms f)
   }
 
   -- the diamond of the first property, one of the list after the other
-  pub CarriesAcross-tp1 : (d : List Cell) (o : Op) (list : List PlacedOp) → IsIntegrable f (length d) o → IsChain f d list → IsAllowedWith f o list
+  pub CarriesAcross-tp1 : (d : List Cell) (o : Op) (list : List PlacedOp) → IsIntegrable f (length d) o
+      → IsChain f d list → IsAllowedWith f o list
       → CarriesAcross f d o list
   CarriesAcross-tp1 d o [] integrable chain allowed = record {
     carried = record { op = o; list = [] };
@@ -66,5 +70,6 @@ module _ (f : Function) (keeps : KeepsForms f) (converging : ConvergesOnForms f)
   CarriesAcross-tp1 d o (b ∷ bs) integrable chain allowed =
       let converges : ConvergesAt f d o b.op = converging d o b.op integrable chain.0 allowed.0 in
       CarriesAcross-more d o b bs chain.0 converges
-      (CarriesAcross-tp1 (document_after f.head.mode b.op d) converges.a_after_b bs (IsIntegrable-form d o b.op converges integrable) chain.1
+      (CarriesAcross-tp1 (document_after f.head.mode b.op d) converges.a_after_b bs
+      (IsIntegrable-form d o b.op converges integrable) chain.1
       (IsAllowedWith-form o converges.a_after_b (λ other. kept d o b.op other converges) bs allowed.1))

@@ -30,15 +30,18 @@ module _ (d : List Cell) (n : ℕ) where
   inside c there = omega (arith, there.low, there.high, length-replicate n fresh)
 
   fresh_at : (c : ℕ) → IsClient (length (replicate n fresh)) c → client_at (replicate n fresh) (c - 1) ≡ fresh
-  fresh_at c there = client_at-get_or (replicate n fresh) (c - 1) ∙ get_or-replicate n (c - 1) fresh nobody (inside c there)
+  fresh_at c there = client_at-get_or (replicate n fresh) (c - 1)
+      ∙ get_or-replicate n (c - 1) fresh nobody (inside c there)
 
   nothing_ahead : (c : ℕ) → IsClient (length (replicate n fresh)) c → ahead_of server c ≡ []
-  nothing_ahead c there = unwrap_or-slice_get server.ahead (c - 1) [] ∙ get_or-replicate n (c - 1) [] [] (inside c there)
+  nothing_ahead c there = unwrap_or-slice_get server.ahead (c - 1) []
+      ∙ get_or-replicate n (c - 1) [] [] (inside c there)
 
   pub AreCountedEdits-begun : AreCountedEdits [] (replicate n fresh)
   AreCountedEdits-begun = record { each = λ c there. rw (fresh_at c there) refl }
 
-  pub IsHubKept-begun : (f : Function) → n ≤ MAX_CLIENTS → length d ≤ MAX_CELLS → IsHubKept f 0 server (replicate n fresh)
+  pub IsHubKept-begun : (f : Function) → n ≤ MAX_CLIENTS → length d ≤ MAX_CELLS
+      → IsHubKept f 0 server (replicate n fresh)
   IsHubKept-begun f most cells = record {
     server = record {
       few = omega arith;

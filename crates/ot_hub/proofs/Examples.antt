@@ -57,7 +57,8 @@ clients_too : map (λ client. client.doc) (after (after (begun_hub sites (y ∷ 
     ≡ (c ∷ a ∷ []) ∷ (c ∷ a ∷ []) ∷ (c ∷ a ∷ []) ∷ []
 clients_too = refl
 
-nothing_is_pending : map (λ client. client.pending) (after (after (begun_hub sites (y ∷ []) 3) sent_in_turn) all_received).clients ≡ [] ∷ [] ∷ [] ∷ []
+nothing_is_pending : map (λ client. client.pending)
+    (after (after (begun_hub sites (y ∷ []) 3) sent_in_turn) all_received).clients ≡ [] ∷ [] ∷ [] ∷ []
 nothing_is_pending = refl
 
 nothing_to_take : down_step (after (begun_hub sites [] 2) (Edit 1 (Ins (pos 0) 97 1) ∷ [])) 2 ≡ Nothing
@@ -70,12 +71,14 @@ nothing_to_send = refl
 abbrev crossing : List Event
 crossing = Edit 1 (Ins (pos 0) 97 1) ∷ Edit 2 (Ins (pos 0) 99 2) ∷ Up 1 ∷ Up 2 ∷ Down 1 ∷ Down 1 ∷ Down 2 ∷ Down 2 ∷ []
 
-own_entries_are_not_executed_again : map (λ client. client.doc) (after (begun_hub sites [] 2) crossing).clients ≡ (a ∷ c ∷ []) ∷ (a ∷ c ∷ []) ∷ []
+own_entries_are_not_executed_again : map (λ client. client.doc) (after (begun_hub sites [] 2) crossing).clients
+    ≡ (a ∷ c ∷ []) ∷ (a ∷ c ∷ []) ∷ []
 own_entries_are_not_executed_again = refl
 
 -- the server took two of the three messages, and no client received anything
 abbrev waiting : HubData
-waiting = after (begun_hub sites (y ∷ []) 3) (Edit 1 (Ins (pos 1) 97 1) ∷ Edit 2 (Del (pos 0) 2) ∷ Edit 3 (Ins (pos 0) 99 3) ∷ Up 1 ∷ Up 2 ∷ [])
+waiting = after (begun_hub sites (y ∷ []) 3)
+    (Edit 1 (Ins (pos 1) 97 1) ∷ Edit 2 (Del (pos 0) 2) ∷ Edit 3 (Ins (pos 0) 99 3) ∷ Up 1 ∷ Up 2 ∷ [])
 
 -- what the third message becomes at the server, and what its client will take
 abbrev third : PlacedOp
@@ -106,5 +109,6 @@ down_way = inr (record {
 })
 
 -- they meet in one document
-one_document : document_after_all Plain to_take (client_of waiting 3).doc ≡ document_after_all Plain (third ∷ []) waiting.server.doc
+one_document : document_after_all Plain to_take (client_of waiting 3).doc
+    ≡ document_after_all Plain (third ∷ []) waiting.server.doc
 one_document = refl

@@ -12,7 +12,8 @@ use Rattle.ot_hub.specs.Theorem.{FollowsLog}
 use Rattle.ot_hub.specs.Views.{HubData, client_of}
 
 cell_code : Coded Cell
-cell_code = code_by (ℕ × Bool) (coded× coded_ℕ coded_bool) (λ c. (c.ch, c.live)) (λ p. record { ch = p.0; live = p.1 }) (λ _. refl)
+cell_code = code_by (ℕ × Bool) (coded× coded_ℕ coded_bool) (λ c. (c.ch, c.live))
+    (λ p. record { ch = p.0; live = p.1 }) (λ _. refl)
 
 document_code : Coded (List Cell)
 document_code = coded_list cell_code
@@ -25,7 +26,8 @@ module _ (hub : HubData) where
     one_document = λ c there received nothing.
         (s.each c there).doc
         ∙ ap (λ (l : List PlacedOp). document_after_all hub.function.head.mode l
-        (document_after_all hub.function.head.mode (operations (take (client_of hub c).received hub.server.log)) hub.first)) nothing
+        (document_after_all hub.function.head.mode
+        (operations (take (client_of hub c).received hub.server.log)) hub.first)) nothing
         ∙ ap (λ (l : List Entry). document_after_all hub.function.head.mode (operations l) hub.first)
         (take_all (client_of hub c).received hub.server.log (omega (arith, received)))
         ∙ sym s.log.doc;
@@ -35,5 +37,6 @@ module _ (hub : HubData) where
   pub FollowsLog-in_step : ∥ AreInStep hub.function hub.first hub.server hub.clients ∥₁ → FollowsLog hub
   FollowsLog-in_step s = record {
     clients = λ c there. ∥∥₁_elim s (Coded-set document_code _ _) (λ kept. (follows kept).clients c there);
-    one_document = λ c there received nothing. ∥∥₁_elim s (Coded-set document_code _ _) (λ kept. (follows kept).one_document c there received nothing);
+    one_document = λ c there received nothing.
+        ∥∥₁_elim s (Coded-set document_code _ _) (λ kept. (follows kept).one_document c there received nothing);
   }

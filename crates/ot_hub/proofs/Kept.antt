@@ -16,10 +16,12 @@ use Rattle.ot_hub.proofs.Near.{Wider, IsUsable-wider, AreUsable-wider}
 -- what holds of each holds of the one at a place
 pub All-at : {X : Type 0} (P : X → Type 0) (xs : List X) (i : ℕ) (x : X) → All P xs → slice_get xs i ≡ Some x → P x
 All-at P xs i x all is =
-    subst P (sym (unwrap_or-slice_get xs i x) ∙ ap (λ found. unwrap_or found x) is) (All-get_or P xs i x (slice_get_within xs i x is) all)
+    subst P (sym (unwrap_or-slice_get xs i x) ∙ ap (λ found. unwrap_or found x) is)
+    (All-get_or P xs i x (slice_get_within xs i x is) all)
 
 -- an operation and a list that are near enough
-pub CanBeCarried-near : Wider → (f : Function) (m : ℕ) (o : Op) (list : List PlacedOp) → length list ≤ MAX_EDITS → m ≤ farthest_carried (length list)
+pub CanBeCarried-near : Wider → (f : Function) (m : ℕ) (o : Op) (list : List PlacedOp) → length list ≤ MAX_EDITS
+    → m ≤ farthest_carried (length list)
     → IsUsable f m o → AreUsable f m list → CanBeCarried f o list
 CanBeCarried-near wider f m o list few near usable all = record {
   few = few;
@@ -28,11 +30,12 @@ CanBeCarried-near wider f m o list few near usable all = record {
 }
 
 -- a message over what the server keeps for its client
-pub CanBeCarried-ahead : Wider → (f : Function) (server : Server) → IsServerKept f server → (i : ℕ) (list : List PlacedOp)
+pub CanBeCarried-ahead : Wider → (f : Function) (server : Server) → IsServerKept f server
+    → (i : ℕ) (list : List PlacedOp)
     → slice_get server.ahead i ≡ Some list → (o : Op) → IsUsable f most_hub_cells o → CanBeCarried f o list
 CanBeCarried-ahead wider f server kept i list is o usable =
-    CanBeCarried-near wider f (reach (length server.log)) o list (omega (arith, short, kept.few)) (omega (arith, short, kept.few))
-    (IsUsable-wider wider f most_hub_cells (reach (length server.log)) o (omega arith) usable)
+    CanBeCarried-near wider f (reach (length server.log)) o list (omega (arith, short, kept.few)) (omega
+    (arith, short, kept.few)) (IsUsable-wider wider f most_hub_cells (reach (length server.log)) o (omega arith) usable)
     (All-at (λ one. AreUsable f (reach (length server.log)) one) server.ahead i list kept.ahead is)
   where
     short : length list ≤ length server.log

@@ -1,5 +1,6 @@
 -- A client that makes an operation stays in step with the server.
-use Rattle.std.proofs.Common.{◌≡◌, ◌≤◌, ℕ, false, List, [], ◌∷◌, ◌++◌, length, take, drop, Some, sym, ap, ◌∙◌, subst, arith}
+use Rattle.std.proofs.Common.{◌≡◌, ◌≤◌, ℕ, false, List, [], ◌∷◌, ◌++◌, length, take, drop, Some, sym, ap, ◌∙◌, subst}
+use Rattle.std.proofs.Common.{arith}
 use Rattle.ot_model.specs.declared.cell.Cell.{Cell}
 use Rattle.ot_model.specs.declared.op.Mode.{Mode}
 use Rattle.ot_model.specs.declared.op.Op.{Op}
@@ -21,13 +22,15 @@ use Rattle.ot_hub.proofs.Carrying.{op-kept, list-kept}
 use Rattle.ot_hub.proofs.Meetings.{item, all-push, from_place-same, ups-more_messages, downs-more_pending, downs-places}
 use Rattle.ot_hub.proofs.Ways.{document_after_all-push, IsChain-push, of-kept, others-kept, allowed_with_others}
 
-module _ (f : Function) (keeps : KeepsForms f) (converging : ConvergesOnForms f) (any_chars : f.head.chars_differ ≡ false)
+module _ (f : Function) (keeps : KeepsForms f) (converging : ConvergesOnForms f)
+    (any_chars : f.head.chars_differ ≡ false)
     (is_form : (a b form : Op) → transform_of f a b ≡ Some form → IsFormOf a form) (first : List Cell) where
   abbrev mode : Mode
   mode = f.head.mode
 
   -- the client makes an operation
-  module _ (server : Server) (c : ℕ) (client : Client) (ahead : List PlacedOp) (s : IsClientInStep f first server c client ahead)
+  module _ (server : Server) (c : ℕ) (client : Client) (ahead : List PlacedOp)
+      (s : IsClientInStep f first server c client ahead)
       (o : Op) (integrable : IsIntegrable f (length client.doc) o) (of : IsOf c o) where
     across : CarriesAcross f client.doc o s.taken
     across = CarriesAcross-tp1 f keeps converging client.doc o s.taken integrable s.taken_chain
@@ -39,8 +42,10 @@ module _ (f : Function) (keeps : KeepsForms f) (converging : ConvergesOnForms f)
     abbrev base : List Cell
     base = document_after_all mode (operations (take client.received server.log)) first
 
-    downs : Downs f c client.received (edited mode o client).pending (drop client.received server.log) (s.forms ++ item client.received k.op ∷ []) k.list
-    downs = downs-more_pending f c o client.received client.received client.pending (drop client.received server.log) s.forms s.taken k s.downs across.is
+    downs : Downs f c client.received (edited mode o client).pending (drop client.received server.log)
+        (s.forms ++ item client.received k.op ∷ []) k.list
+    downs = downs-more_pending f c o client.received client.received client.pending (drop client.received server.log)
+        s.forms s.taken k s.downs across.is
 
     -- it stays in step: its message is at the end of what it sends and of what is pending
     pub IsClientInStep-edited : IsClientInStep f first server c (edited mode o client) ahead
@@ -52,11 +57,13 @@ module _ (f : Function) (keeps : KeepsForms f) (converging : ConvergesOnForms f)
           (subst (λ (l : List PlacedOp). carry f o l ≡ Some k) (sym s.kept_is) across.is);
       downs = downs;
       kept_is = from_place-same client.received k.list
-          (downs-places f c client.received (edited mode o client).pending (drop client.received server.log) (s.forms ++ item client.received k.op ∷ []) k.list
-          downs);
+          (downs-places f c client.received (edited mode o client).pending (drop client.received server.log)
+          (s.forms ++ item client.received k.op ∷ []) k.list downs);
       received = s.received;
-      made = all-push (λ message. message.place ≤ client.received) client.messages (item client.received o) s.made (omega arith);
-      doc = ap (document_after mode o) s.doc ∙ sym (document_after_all-push mode client.pending (item client.received o) base);
+      made = all-push (λ message. message.place ≤ client.received) client.messages
+          (item client.received o) s.made (omega arith);
+      doc = ap (document_after mode o) s.doc
+          ∙ sym (document_after_all-push mode client.pending (item client.received o) base);
       pending = IsChain-push f base client.pending (item client.received o) s.pending
           (subst (λ (d : List Cell). IsIntegrable f (length d) o) s.doc integrable);
       forms_chain = IsChain-push f server.doc s.forms (item client.received k.op) s.forms_chain

@@ -1,6 +1,6 @@
 -- A client and the server stay on two ways to one document, whatever step is taken.
-use Rattle.std.proofs.Common.{◌≡◌, ◌≢◌, ◌+◌, ℕ, zero, suc, false, List, [], ◌∷◌, ◌++◌, length, take, drop, Option, Some, None, refl, sym, ap, ◌∙◌, subst, inl}
-use Rattle.std.proofs.Common.{inr, add-one}
+use Rattle.std.proofs.Common.{◌≡◌, ◌≢◌, ◌+◌, ℕ, zero, suc, false, List, [], ◌∷◌, ◌++◌, length, take, drop, Option, Some}
+use Rattle.std.proofs.Common.{None, refl, sym, ap, ◌∙◌, subst, inl, inr, add-one}
 use Rattle.std.specs.Prelude.{slice_get}
 use Rattle.std.specs.List.{AllByRecursion}
 use Rattle.std.proofs.lemmas.Bool.{false≢true}
@@ -35,12 +35,14 @@ IsChain-push f d (x ∷ xs) b chain next = (chain.0, IsChain-push f (document_af
 
 -- the next entry of the log
 module _ (f : Function) where
-  pub integrable_next : (d : List Cell) (log : List Entry) (r : ℕ) (entry : Entry) → slice_get log r ≡ Some entry → IsChain f d (operations log)
+  pub integrable_next : (d : List Cell) (log : List Entry) (r : ℕ) (entry : Entry) → slice_get log r ≡ Some entry
+      → IsChain f d (operations log)
       → IsIntegrable f (length (document_after_all f.head.mode (operations (take r log)) d)) entry.op
   integrable_next d [] r entry next chain = cc
   integrable_next d (e ∷ log) zero entry next chain =
       let same : e ≡ entry = cc in subst (λ (x : Entry). IsIntegrable f (length d) x.op) same chain.0
-  integrable_next d (e ∷ log) (suc r) entry next chain = integrable_next (document_after f.head.mode e.op d) log r entry next chain.1
+  integrable_next d (e ∷ log) (suc r) entry next chain =
+      integrable_next (document_after f.head.mode e.op d) log r entry next chain.1
 
   after_suc : (d : List Cell) (log : List Entry) (r : ℕ) (entry : Entry) → slice_get log r ≡ Some entry
       → document_after_all f.head.mode (operations (take (suc r) log)) d
@@ -54,15 +56,18 @@ module _ (f : Function) where
       → document_after_all f.head.mode (operations (take (r + 1) log)) d
       ≡ document_after f.head.mode entry.op (document_after_all f.head.mode (operations (take r log)) d)
   after_next d log r entry next =
-      ap (λ (n : ℕ). document_after_all f.head.mode (operations (take n log)) d) (add-one r) ∙ after_suc d log r entry next
+      ap (λ (n : ℕ). document_after_all f.head.mode (operations (take n log)) d) (add-one r)
+      ∙ after_suc d log r entry next
 
 pub own_next : (log : List Entry) (r : ℕ) (entry : Entry) → slice_get log r ≡ Some entry
     → AllByRecursion (λ e. IsOf e.client e.op) log → IsOf entry.client entry.op
 own_next [] r entry next own = cc
-own_next (e ∷ log) zero entry next own = let same : e ≡ entry = cc in subst (λ (x : Entry). IsOf x.client x.op) same own.0
+own_next (e ∷ log) zero entry next own = let same : e ≡ entry = cc in
+    subst (λ (x : Entry). IsOf x.client x.op) same own.0
 own_next (e ∷ log) (suc r) entry next own = own_next log r entry next own.1
 
-pub drop_next : (log : List Entry) (r : ℕ) (entry : Entry) → slice_get log r ≡ Some entry → drop r log ≡ entry ∷ drop (r + 1) log
+pub drop_next : (log : List Entry) (r : ℕ) (entry : Entry) → slice_get log r ≡ Some entry
+    → drop r log ≡ entry ∷ drop (r + 1) log
 drop_next log r entry next =
     drop_more log r entry (slice_get_within log r entry next)
     ∙ ap (λ (x : Entry). x ∷ drop (r + 1) log) (get_or_from_slice_get log r entry entry next)
@@ -85,10 +90,12 @@ pub record FirstUp (f : Function) (message : PlacedOp) (messages ahead all kept 
   pub is : all ≡ form ∷ forms
   pub first : BecomesForm f message ahead form (λ behind. Ups f messages behind forms kept)
 
-pub first_up : (f : Function) (message : PlacedOp) (messages ahead forms kept : List PlacedOp) → Ups f (message ∷ messages) ahead forms kept
+pub first_up : (f : Function) (message : PlacedOp) (messages ahead forms kept : List PlacedOp)
+    → Ups f (message ∷ messages) ahead forms kept
     → FirstUp f message messages ahead forms kept
 first_up f message messages ahead [] kept ups = absurd ups
-first_up f message messages ahead (form ∷ forms) kept ups = record { form = form; forms = forms; is = refl; first = ups }
+first_up f message messages ahead (form ∷ forms) kept ups =
+    record { form = form; forms = forms; is = refl; first = ups }
 
 -- operations of a client and of others differ in their sites
 differ_sites : (a b : Option ℕ) (c : ℕ) → ((site : ℕ) → a ≡ Some site → site ≡ c) → b ≢ Some c → Differ a b
@@ -121,11 +128,13 @@ module _ (f : Function) (keeps : KeepsForms f) (any_chars : f.head.chars_differ 
   }
 
   -- an operation of a client with those of others, and one of others with those of the client
-  pub allowed_with_others : (c : ℕ) (o : Op) (list : List PlacedOp) → IsOf c o → AllByRecursion (λ b. IsOfOthers c b.op) list → IsAllowedWith f o list
+  pub allowed_with_others : (c : ℕ) (o : Op) (list : List PlacedOp) → IsOf c o
+      → AllByRecursion (λ b. IsOfOthers c b.op) list → IsAllowedWith f o list
   allowed_with_others c o [] of all = tt
   allowed_with_others c o (b ∷ list) of all = (allowed c o b.op of all.0, allowed_with_others c o list of all.1)
 
-  pub allowed_with_own : (c : ℕ) (o : Op) (list : List PlacedOp) → IsOfOthers c o → AllByRecursion (λ b. IsOf c b.op) list → IsAllowedWith f o list
+  pub allowed_with_own : (c : ℕ) (o : Op) (list : List PlacedOp) → IsOfOthers c o
+      → AllByRecursion (λ b. IsOf c b.op) list → IsAllowedWith f o list
   allowed_with_own c o [] others all = tt
   allowed_with_own c o (b ∷ list) others all =
       (keeps.allowed_back b.op o (allowed c b.op o all.0 others), allowed_with_own c o list others all.1)

@@ -41,7 +41,8 @@ deletion_last = refl
 tombstone_stays : integrated ttf (a ∷ b ∷ []) ops (2 ∷ 0 ∷ 1 ∷ []) ≡ Document (dead_cell a ∷ x ∷ y ∷ b ∷ [])
 tombstone_stays = refl
 
-one_cell_deleted_twice : integrated sites (a ∷ b ∷ []) (Del (pos 0) 1 ∷ Del (pos 0) 2 ∷ []) (1 ∷ 0 ∷ []) ≡ Document (b ∷ [])
+one_cell_deleted_twice : integrated sites (a ∷ b ∷ []) (Del (pos 0) 1 ∷ Del (pos 0) 2 ∷ [])
+    (1 ∷ 0 ∷ []) ≡ Document (b ∷ [])
 one_cell_deleted_twice = refl
 
 -- a deletion at no cell is executed by no order

@@ -8,5 +8,6 @@ use Rattle.fn_rules.specs.Orders.{through}
 
 -- one executed operation further
 pub through-next : (f : Function) (o p : Op) (executed : List Op) (i : ℕ) (other : Op) → i < length executed
-    → transform_of f o (get_or executed i other) ≡ Some p → through f o (drop i executed) ≡ through f p (drop (i + 1) executed)
+    → transform_of f o (get_or executed i other) ≡ Some p
+    → through f o (drop i executed) ≡ through f p (drop (i + 1) executed)
 through-next f o p executed i other inside is = rw (drop_more executed i other inside, is) refl

@@ -1,6 +1,6 @@
 -- The outcome of integrating, one place of the order after the other.
-use Rattle.std.proofs.Common.{◌≡◌, ℕ, ◌+◌, ◌<◌, ◌≤◌, true, false, List, [], ◌∷◌, ◌++◌, length, map, drop, get_or, Some, None, refl}
-use Rattle.std.proofs.Common.{ap, subst, All, inl, inr}
+use Rattle.std.proofs.Common.{◌≡◌, ℕ, ◌+◌, ◌<◌, ◌≤◌, true, false, List, [], ◌∷◌, ◌++◌, length, map, drop, get_or, Some}
+use Rattle.std.proofs.Common.{None, refl, ap, subst, All, inl, inr}
 use Rattle.std.proofs.lemmas.Option.{slice_get_cases}
 use Rattle.std.proofs.lemmas.List.{drop_more, drop_all}
 use Rattle.ot_model.specs.declared.cell.Cell.{Cell}
@@ -18,7 +18,8 @@ operation_at-fact P ops number all nop = elim ((slice_get_cases ops number).1) [
 ]
 
 -- the next place of an order
-module _ (f : Function) (d : List Cell) (executed ops : List Op) (order : List ℕ) (place : ℕ) (inside : place < length order) where
+module _ (f : Function) (d : List Cell) (executed ops : List Op) (order : List ℕ) (place : ℕ)
+    (inside : place < length order) where
   abbrev named : Op
   named = operation_at ops (get_or order place 0)
 
@@ -28,7 +29,8 @@ module _ (f : Function) (d : List Cell) (executed ops : List Op) (order : List �
   rest-next : rest place ≡ named ∷ rest (place + 1)
   rest-next = ap (map (operation_at ops)) (drop_more order place 0 inside)
 
-  pub outcome-without_form : through f named executed ≡ None → outcome_from f d executed place (rest place) ≡ StuckAt place
+  pub outcome-without_form : through f named executed ≡ None
+      → outcome_from f d executed place (rest place) ≡ StuckAt place
   outcome-without_form none = rw (rest-next, none) refl
 
   pub outcome-refused : (p : Op) → through f named executed ≡ Some p → is_enabled p (length d) ≡ false
@@ -41,6 +43,7 @@ module _ (f : Function) (d : List Cell) (executed ops : List Op) (order : List �
   outcome-executed p form enabled = rw (rest-next, form, enabled) refl
 
 -- the end of an order
-pub outcome-end : (f : Function) (d : List Cell) (executed ops : List Op) (order : List ℕ) (place : ℕ) → length order ≤ place
+pub outcome-end : (f : Function) (d : List Cell) (executed ops : List Op) (order : List ℕ) (place : ℕ)
+    → length order ≤ place
     → outcome_from f d executed place (map (operation_at ops) (drop place order)) ≡ Document d
 outcome-end f d executed ops order place all = rw (drop_all place order all) refl

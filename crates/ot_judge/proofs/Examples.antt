@@ -7,8 +7,10 @@ use Rattle.cert_text.specs.declared.item.Part.TheVariants as part
 use Rattle.fn_rules.specs.declared.function.Level.TheVariants.{Tp1}
 use Rattle.fn_rules.specs.Functions.{Function}
 use Rattle.fn_rules.specs.Shipped.{marks}
-use Rattle.ot_questions.specs.Obligation.{plan_of, ask_pair, ask_all_enabled, ask_converge, ask_ways, ask_lengths, ask_documents}
-use Rattle.ot_questions.specs.Questions.{ask_le, ask_lt, ask_eq, ask_compared, ask_atom, ask_guard, ask_transform, ask_enabled, ask_differ, ask_allowed}
+use Rattle.ot_questions.specs.Obligation.{plan_of, ask_pair, ask_all_enabled, ask_converge, ask_ways, ask_lengths}
+use Rattle.ot_questions.specs.Obligation.{ask_documents}
+use Rattle.ot_questions.specs.Questions.{ask_le, ask_lt, ask_eq, ask_compared, ask_atom, ask_guard, ask_transform}
+use Rattle.ot_questions.specs.Questions.{ask_enabled, ask_differ, ask_allowed}
 use Rattle.refusals.specs.declared.refusal.Refusal.TheVariants as why
 use Rattle.ot_sections.specs.Feeding.{MayGive}
 use Rattle.ot_judge.specs.Refusals.{IsRefusal}
@@ -23,8 +25,8 @@ lines = codes "otcert 1 tp1" ++ 10 ∷ codes "ob del del" ++ 10 ∷ []
 
 -- after five questions both deletions are enabled, and there is no case
 fails_at_29 : IsRefusal no_case (lines ++ codes "?????." ++ 10 ∷ codes "end" ++ 10 ∷ []) 29 why.GoalFails
-unfolding plan_of ask_pair ask_all_enabled ask_converge ask_ways ask_lengths ask_documents ask_le ask_lt ask_eq ask_compared
-    ask_atom ask_guard ask_transform ask_enabled ask_differ ask_allowed
+unfolding plan_of ask_pair ask_all_enabled ask_converge ask_ways ask_lengths ask_documents ask_le ask_lt ask_eq
+    ask_compared ask_atom ask_guard ask_transform ask_enabled ask_differ ask_allowed
 fails_at_29 = (
   part.Header Tp1 ∷ part.Ob 0 ∷ part.Tok token.Ask ∷ part.Tok token.Ask ∷ part.Tok token.Ask ∷ part.Tok token.Ask
       ∷ part.Tok token.Ask ∷ [],

@@ -1,8 +1,8 @@
 -- The header of a level.
 use Rattle.std.specs.Prelude.{filter, ◌&&◌}
 use Rattle.std.specs.List.{list_any}
-use Rattle.std.proofs.Common.{◌≡◌, ℕ, ◌+◌, ◌<◌, Bool, true, false, IsTrue, List, [], ◌∷◌, ◌++◌, length, Ok, arith, refl, sym, ap, ◌∙◌, length-append}
-use Rattle.std.proofs.Common.{append_assoc}
+use Rattle.std.proofs.Common.{◌≡◌, ℕ, ◌+◌, ◌<◌, Bool, true, false, IsTrue, List, [], ◌∷◌, ◌++◌, length, Ok, arith, refl}
+use Rattle.std.proofs.Common.{sym, ap, ◌∙◌, length-append, append_assoc}
 use Rattle.fn_rules.specs.declared.function.Level.{Level}
 use Rattle.fn_rules.specs.declared.function.Level.TheVariants.{Tp1, Tp2}
 use Rattle.ot_model.specs.declared.op.Kind.{Kind}
@@ -43,7 +43,8 @@ left_true false b both = absurd (cc)
 
 -- a function that is for some kind has obligations at each level
 some_obligations : (f : Function) (level : Level) → IsTrue (is_valid f) → 0 < length (obligations_of f.head level)
-some_obligations f Tp1 valid = some_pairs (declared_kinds f.head) (some_left (is_declared f.head) KINDS (left_true _ _ valid))
+some_obligations f Tp1 valid =
+    some_pairs (declared_kinds f.head) (some_left (is_declared f.head) KINDS (left_true _ _ valid))
 some_obligations f Tp2 valid =
     let some = some_pairs (declared_kinds f.head) (some_left (is_declared f.head) KINDS (left_true _ _ valid)) in
     omega (arith, some, length-append (pairs_of (declared_kinds f.head)) (triples_of (declared_kinds f.head)))
@@ -51,8 +52,10 @@ some_obligations f Tp2 valid =
 -- what the sections of a level are made of, and back
 abbrev pub AreParts : Type 0
 AreParts =
-    (plan : ObName → Plan Why) (obs : List ObName) (trees : List AnswerTree) (came offset : ℕ) → AreAnswers plan obs trees
-    → IsJudged plan (Ok tt) (record { place = Line came obs; offset = offset; branches = [] }) (sections_text obs trees ++ end_text)
+    (plan : ObName → Plan Why) (obs : List ObName) (trees : List AnswerTree) (came offset : ℕ)
+    → AreAnswers plan obs trees
+    → IsJudged plan (Ok tt) (record { place = Line came obs; offset = offset; branches = [] })
+    (sections_text obs trees ++ end_text)
 
 abbrev pub AreSections : Type 0
 AreSections =
@@ -61,16 +64,20 @@ AreSections =
     → (trees : List AnswerTree) × AreAnswers plan obs trees × (bytes ≡ sections_text obs trees ++ end_text)
 
 behind_header :
-    (names : List ObName) (level : Level) (trees : List AnswerTree) (bytes : List ℕ) → bytes ≡ certificate_text names level trees
+    (names : List ObName) (level : Level) (trees : List AnswerTree) (bytes : List ℕ)
+    → bytes ≡ certificate_text names level trees
     → bytes ≡ header_text names level ++ (sections_text names trees ++ end_text)
-behind_header names level trees bytes is = is ∙ append_assoc (header_text names level) (sections_text names trees) end_text
+behind_header names level trees bytes is = is
+    ∙ append_assoc (header_text names level) (sections_text names trees) end_text
 
 module _ (f : Function) where
   -- a certificate of a valid function is judged whole
   pub certificate_is_whole :
-      AreParts → (level : Level) (bytes : List ℕ) → IsTrue (is_valid f) → IsCertificate bytes f level → IsWholeCertificate f level bytes
+      AreParts → (level : Level) (bytes : List ℕ) → IsTrue (is_valid f) → IsCertificate bytes f level
+      → IsWholeCertificate f level bytes
   certificate_is_whole are_parts Tp1 bytes valid (trees, answers, is) =
-      let judged = are_parts (plan_of f) (obligations_of f.head Tp1) trees 0 (0 + length (header_text (obligations_of f.head Tp1) Tp1)) answers in (
+      let judged = are_parts (plan_of f) (obligations_of f.head Tp1) trees 0
+      (0 + length (header_text (obligations_of f.head Tp1) Tp1)) answers in (
         judged.0,
         (
           some_obligations f Tp1 valid,
@@ -84,7 +91,8 @@ module _ (f : Function) where
         ),
       )
   certificate_is_whole are_parts Tp2 bytes valid (trees, answers, is) =
-      let judged = are_parts (plan_of f) (obligations_of f.head Tp2) trees 0 (0 + length (header_text (obligations_of f.head Tp2) Tp2)) answers in (
+      let judged = are_parts (plan_of f) (obligations_of f.head Tp2) trees 0
+      (0 + length (header_text (obligations_of f.head Tp2) Tp2)) answers in (
         judged.0,
         (
           some_obligations f Tp2 valid,
@@ -100,7 +108,8 @@ module _ (f : Function) where
 
   -- bytes that are judged whole are a certificate with answers
   whole_shows :
-      AreSections → (names : List ObName) (level : Level) (bytes rest : List ℕ) (branches : List (Branch Why)) (offset : ℕ)
+      AreSections
+      → (names : List ObName) (level : Level) (bytes rest : List ℕ) (branches : List (Branch Why)) (offset : ℕ)
       → bytes ≡ header_text names level ++ rest
       → IsJudged (plan_of f) (Ok tt) (record { place = Line 0 names; offset = offset; branches = branches }) rest
       → (trees : List AnswerTree) × AreAnswers (plan_of f) names trees × (bytes ≡ certificate_text names level trees)
@@ -112,7 +121,8 @@ module _ (f : Function) where
             ∙ sym (append_assoc (header_text names level) (sections_text names shown.0) end_text),
       )
 
-  pub whole_is_certificate : AreSections → (level : Level) (bytes : List ℕ) → IsWholeCertificate f level bytes → IsCertificate bytes f level
+  pub whole_is_certificate : AreSections → (level : Level) (bytes : List ℕ) → IsWholeCertificate f level bytes
+      → IsCertificate bytes f level
   whole_is_certificate are_sections Tp1 bytes (parts, fits) =
       whole_shows are_sections (obligations_of f.head Tp1) Tp1 bytes fits.1.0 fits.1.1 _ fits.1.2 (parts, fits.1.4)
   whole_is_certificate are_sections Tp2 bytes (parts, fits) =

@@ -22,7 +22,8 @@ AllJudged =
 
 -- parts that fit from the header on are a certificate
 abbrev pub AreCertificates : Type 0
-AreCertificates = (f : Function) (level : Level) (bytes : List ℕ) → IsWholeCertificate f level bytes → IsCertificate bytes f level
+AreCertificates = (f : Function) (level : Level) (bytes : List ℕ) → IsWholeCertificate f level bytes
+    → IsCertificate bytes f level
 
 module _ (are_certificates : AreCertificates) (f : Function) (bytes : List ℕ) where
   abbrev HasJudgement : Type 0
@@ -37,14 +38,16 @@ module _ (are_certificates : AreCertificates) (f : Function) (bytes : List ℕ) 
   whole_judged (part.End ∷ parts) fits = absurd fits.0
 
   judgement_of :
-      (end : Result (Unit {0}) JudgeError) → IsAnswer end → IsJudged (plan_of f) end (start_point_of f) bytes → HasJudgement
+      (end : Result (Unit {0}) JudgeError) → IsAnswer end
+      → IsJudged (plan_of f) end (start_point_of f) bytes → HasJudgement
   judgement_of (Ok done) answer judged = whole_judged judged.0 judged.1
   judgement_of (Err (judge.Refused offset why)) answer judged = (Err (judge.Refused offset why), judged)
   judgement_of (Err judge.Failed) answer judged = absurd answer
   judgement_of (Err judge.NoMemory) answer judged = absurd answer
 
 pub some_judgement :
-    AreCertificates → AllJudged → (f : Function) (bytes : List ℕ) → (judgement : Result Level JudgeError) × IsJudgement f bytes judgement
+    AreCertificates → AllJudged → (f : Function) (bytes : List ℕ)
+    → (judgement : Result Level JudgeError) × IsJudgement f bytes judgement
 some_judgement are_certificates all_judged f bytes =
     let judged = all_judged (plan_of f) (start_point_of f) bytes in
     judgement_of are_certificates f bytes judged.0 judged.1 judged.2

@@ -1,5 +1,6 @@
 -- A whole certificate, from its header to its last line.
-use Rattle.std.proofs.Common.{◌≡◌, ℕ, true, IsTrue, List, [], ◌∷◌, ◌++◌, Option, Some, Result, Err, ◌⊎◌, inl, inr, refl, sym, ap, subst, ◌∙◌}
+use Rattle.std.proofs.Common.{◌≡◌, ℕ, true, IsTrue, List, [], ◌∷◌, ◌++◌, Option, Some, Result, Err, ◌⊎◌, inl, inr, refl}
+use Rattle.std.proofs.Common.{sym, ap, subst, ◌∙◌}
 use Rattle.fn_rules.specs.declared.function.Head.{Head}
 use Rattle.fn_rules.specs.declared.function.Level.{Level}
 use Rattle.fn_rules.specs.declared.function.Level.TheVariants.{Tp1, Tp2}
@@ -19,7 +20,8 @@ use Rattle.refusals.specs.declared.refusal.JudgeError.TheVariants as judge
 use Rattle.ot_sections.specs.Feeding.{Fed, Has, MayGive, MayGiveOf, MayHave, Whole, Yields, fed}
 use Rattle.ot_sections.specs.Parts.{FitThen, IsRefused, Point, point_behind}
 use Rattle.ot_sections.specs.Sections.{IsLineWith}
-use Rattle.ot_sections.specs.Stands.{Came, IsJudgedBehind, IsMisspeltBehind, reader_offset_of, reader_place_of, point_of, stand}
+use Rattle.ot_sections.specs.Stands.{Came, IsJudgedBehind, IsMisspeltBehind, reader_offset_of, reader_place_of}
+use Rattle.ot_sections.specs.Stands.{point_of, stand}
 use Rattle.ot_judge.specs.Refusals.{IsJudgement, IsWant, start_point_of}
 
 line_of_level :
@@ -34,13 +36,16 @@ abbrev pub reader_of : Function → ReaderState
 reader_of f = Reading (Start (obligations_of f.head Tp1) (obligations_of f.head Tp2)) 0 []
 
 pub at_start :
-    (f : Function) (head : Head) (r : ReaderState) → r ≡ Reading (Start (obligations_of head Tp1) (obligations_of head Tp2)) 0 []
+    (f : Function) (head : Head) (r : ReaderState)
+    → r ≡ Reading (Start (obligations_of head Tp1) (obligations_of head Tp2)) 0 []
     → head ≡ f.head → r ≡ reader_of f
-at_start f head r is same = is ∙ ap (λ (h : Head). Reading (Start (obligations_of h Tp1) (obligations_of h Tp2)) 0 []) same
+at_start f head r is same = is
+    ∙ ap (λ (h : Head). Reading (Start (obligations_of h Tp1) (obligations_of h Tp2)) 0 []) same
 
 -- a part that is a header, by its level
 pub came_header :
-    {F : Type 0} (feeds : Ghosts F) (was now : Fed F) (item : Item) (level : Level) → item.part ≡ part.Header level → Came feeds was now item
+    {F : Type 0} (feeds : Ghosts F) (was now : Fed F) (item : Item) (level : Level) → item.part ≡ part.Header level
+    → Came feeds was now item
     → Came feeds was now (record { offset = reader_offset_of was.reader; part = part.Header level })
 came_header feeds was now item level is came =
     let make : Part → Item = λ p. record { offset = reader_offset_of was.reader; part = p } in
@@ -55,25 +60,30 @@ module _ {F : Type 0} (feeds : Ghosts F) (f : Function) (feed new : F) where
   abbrev pub IsMade : Result (Unit {0}) JudgeError → (List Part → List Part) → Type 0
   IsMade end front =
       (all : Whole) → Has feeds new all
-      → (bytes : List ℕ) × Yields feeds feed all bytes × ((parts : List Part) × FitThen (plan_of f) end (start_point_of f) bytes (front parts))
+      → (bytes : List ℕ) × Yields feeds feed all bytes
+      × ((parts : List Part) × FitThen (plan_of f) end (start_point_of f) bytes (front parts))
 
   -- an answer that is no certificate
   pub answered :
       (e : JudgeError) → (IsRefused e → IsMade (Err e) (λ parts. parts))
-      → IsWant (Err e) ⊎ ((all : Whole) → Has feeds new all → (bytes : List ℕ) × Yields feeds feed all bytes × IsJudgement f bytes (Err e))
+      → IsWant (Err e) ⊎ ((all : Whole) → Has feeds new all
+      → (bytes : List ℕ) × Yields feeds feed all bytes × IsJudgement f bytes (Err e))
   answered (judge.Refused offset why) refused = inr (refused tt)
   answered judge.Failed refused = inl (inl refl)
   answered judge.NoMemory refused = inl (inr refl)
 
   pub header_refused :
-      (e : JudgeError) → IsMisspeltBehind feeds (fed (reader_of f) feed) new e → IsRefused e → IsMade (Err e) (λ parts. parts)
-  header_refused e misspelt refused all have = let ends = misspelt all have refused in (ends.0, ends.1, ([], inl ends.2))
+      (e : JudgeError) → IsMisspeltBehind feeds (fed (reader_of f) feed) new e → IsRefused e
+      → IsMade (Err e) (λ parts. parts)
+  header_refused e misspelt refused all have = let ends = misspelt all have refused in
+      (ends.0, ends.1, ([], inl ends.2))
 
   module _ (level : Level) (first : Fed F)
       (header : Came feeds (fed (reader_of f) feed) first (record { offset = 0; part = part.Header level })) where
     pub first_line : IsLineWith (obligations_of f.head level) (reader_place_of first.reader)
     first_line =
-        subst (λ (p : PartPlace). IsLineWith (obligations_of f.head level) p) (sym (ap reader_place_of header.part.behind)) (line_of_level f level)
+        subst (λ (p : PartPlace). IsLineWith (obligations_of f.head level) p)
+        (sym (ap reader_place_of header.part.behind)) (line_of_level f level)
 
     -- what is judged behind the header is judged of it too
     pub behind_header :
@@ -93,7 +103,8 @@ module _ {F : Type 0} (feeds : Ghosts F) (f : Function) (feed new : F) where
         (e : JudgeError) → (IsRefused e → IsJudgedBehind feeds (plan_of f) (stand first []) new (Err e)) → IsRefused e
         → IsMade (Err e) (λ parts. parts)
     refused_behind e judged refused all have =
-        let made = behind_header (Err e) (judged refused) all have in (made.0, made.1, (part.Header level ∷ made.2.0, made.2.1))
+        let made = behind_header (Err e) (judged refused) all have in
+        (made.0, made.1, (part.Header level ∷ made.2.0, made.2.1))
 
 -- some bytes that a feed may give have the judgement
 module _ {F : Type 0} (left : F → Option (List ℕ)) (bound : F → ℕ) (gave hand : F → List ℕ) where
@@ -113,7 +124,8 @@ module _ {F : Type 0} (left : F → Option (List ℕ)) (bound : F → ℕ) where
   pub no_other :
       ((f : Function) (bytes : List ℕ) (one other : Result Level JudgeError) → IsTrue (is_valid f)
       → IsJudgement f bytes one → IsJudgement f bytes other → one ≡ other)
-      → (f : Function) (feed : F) (bytes : List ℕ) (one other : Result Level JudgeError) → IsTrue (is_valid f) → left feed ≡ Some bytes
+      → (f : Function) (feed : F) (bytes : List ℕ) (one other : Result Level JudgeError)
+      → IsTrue (is_valid f) → left feed ≡ Some bytes
       → IsWant one ⊎ ((some : List ℕ) × MayGive left bound feed some × IsJudgement f some one)
       → IsJudgement f bytes other → IsWant one ⊎ (one ≡ other)
   unfolding MayGive

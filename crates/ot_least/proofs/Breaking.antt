@@ -1,5 +1,7 @@
--- A property of all documents of a length holds of each of its obligations, so an obligation that fails there breaks it.
-use Rattle.std.proofs.Common.{◌≡◌, ◌↔◌, ℕ, ℤ, pos, true, false, ◌&&◌, is_none, IsTrue, Option, Some, length, sym, subst, ap, ◌∙◌}
+-- A property of all documents of a length holds of each of its obligations, so
+-- an obligation that fails there breaks it.
+use Rattle.std.proofs.Common.{◌≡◌, ◌↔◌, ℕ, ℤ, pos, true, false, ◌&&◌, is_none, IsTrue, Option, Some, length, sym, subst}
+use Rattle.std.proofs.Common.{ap, ◌∙◌}
 use Rattle.std.proofs.lemmas.List.{length-replicate}
 use Rattle.std.proofs.lemmas.Bool.{and_parts, false≢true}
 use Rattle.ot_model.specs.declared.op.Kind.{Kind}
@@ -20,10 +22,12 @@ use Rattle.ot_questions.specs.Obligation.{plan_of}
 use Rattle.ot_values.specs.Values.{live_cells}
 use Rattle.ot_bound.specs.Lows.{HasAt}
 
-declared_from : (head : Head) (o : Option Kind) (k : Kind) → o ≡ Some k → is_declared head k ≡ true → HasDeclaredKind head o
+declared_from : (head : Head) (o : Option Kind) (k : Kind) → o ≡ Some k
+    → is_declared head k ≡ true → HasDeclaredKind head o
 declared_from head o k is declared = subst (λ (x : Option Kind). HasDeclaredKind head x) (sym is) declared
 
-has_pair : (f : Function) (k l : Kind) (n : ℕ) → is_declared f.head k ≡ true → is_declared f.head l ≡ true → HasTp1At f n → HasPair f k l n
+has_pair : (f : Function) (k l : Kind) (n : ℕ) → is_declared f.head k ≡ true → is_declared f.head l ≡ true
+    → HasTp1At f n → HasPair f k l n
 has_pair f k l n dk dl has d a b len ka kb ea eb ab =
     has d a b len (
       declared_from f.head (kind_of a) k ka dk,
@@ -55,7 +59,8 @@ abbrev pub PairsMean : Type 0
 PairsMean = (f : Function) (k l : Kind) (n : ℕ) → IsTrue (is_valid f) → HoldsAtLength f (Pair k l) n ↔ HasPair f k l n
 
 abbrev pub TriplesMean : Type 0
-TriplesMean = (f : Function) (k l m : Kind) (n : ℕ) → IsTrue (is_valid f) → HoldsAtLength f (Triple k l m) n ↔ HasTriple f k l m n
+TriplesMean = (f : Function) (k l m : Kind) (n : ℕ) → IsTrue (is_valid f)
+    → HoldsAtLength f (Triple k l m) n ↔ HasTriple f k l m n
 
 module _ (pairs : PairsMean) (triples : TriplesMean) (f : Function) (valid : IsTrue (is_valid f)) where
   holds_there :

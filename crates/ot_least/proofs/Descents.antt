@@ -1,8 +1,8 @@
 -- What a turn of the search comes to: too many questions, a low certificate, or a failing end from which it goes on.
 use Rattle.std.specs.List.{AllByRecursion}
 use Rattle.std.specs.declared.alloc.Global.{Global}
-use Rattle.std.proofs.Common.{◌≡◌, ℕ, ℤ, pos, ◌+◌, ◌<◌, ◌≤◌, true, IsTrue, List, [], ◌∷◌, ◌++◌, length, drop, Some, Vec, inl, inr, refl, sym, ap, subst, ◌∙◌}
-use Rattle.std.proofs.Common.{arith, length-append}
+use Rattle.std.proofs.Common.{◌≡◌, ℕ, ℤ, pos, ◌+◌, ◌<◌, ◌≤◌, true, IsTrue, List, [], ◌∷◌, ◌++◌, length, drop, Some, Vec}
+use Rattle.std.proofs.Common.{inl, inr, refl, sym, ap, subst, ◌∙◌, arith, length-append}
 use Rattle.std.specs.Fmt.{decimal}
 use Rattle.std.proofs.lemmas.Fmt.{length-decimal-le}
 use Rattle.diff_graph.specs.declared.lit.Lit.{Lit}
@@ -37,7 +37,8 @@ use Rattle.ot_least.specs.declared.short.Short.TheVariants as short
 use Rattle.ot_least.specs.Endings.{IsEndedBy, IsEnding, IsTurn, failing_end_of}
 use Rattle.ot_bound.specs.Lows.{HasAt, IsLow, low_header_text, parts_of}
 use Rattle.ot_least.proofs.Listed.{end_is_listed}
-use Rattle.ot_least.specs.Shortest.{EndHasCells, Falls, HasCells, IsBroken, IsBrokenAt, IsLeast, IsShortWithin, IsTrueOf, behind_first, end_by}
+use Rattle.ot_least.specs.Shortest.{EndHasCells, Falls, HasCells, IsBroken, IsBrokenAt, IsLeast, IsShortWithin}
+use Rattle.ot_least.specs.Shortest.{IsTrueOf, behind_first, end_by}
 
 -- a property that fails at an instance is broken
 pub broken_at :
@@ -52,16 +53,25 @@ broken_at f Tp2 cells first at =
 -- a first line is short
 pub header_few : (level : Level) (bound : ℕ) → bound ≤ MAX_BOUND → length (low_header_text level bound) ≤ 17
 header_few Tp1 bound few =
-    omega (arith, length-decimal-le 4 bound (omega arith) (omega arith) (omega arith), length-append (decimal bound) (10 ∷ []))
+    omega (
+      arith,
+      length-decimal-le 4 bound (omega arith) (omega arith) (omega arith),
+      length-append (decimal bound) (10 ∷ []),
+    )
 header_few Tp2 bound few =
-    omega (arith, length-decimal-le 4 bound (omega arith) (omega arith) (omega arith), length-append (decimal bound) (10 ∷ []))
+    omega (
+      arith,
+      length-decimal-le 4 bound (omega arith) (omega arith) (omega arith),
+      length-append (decimal bound) (10 ∷ []),
+    )
 
 answers_behind : (answers : List Answer) → answered_by (drop 1 answers) ≡ drop 1 (answered_by answers)
 answers_behind [] = refl
 answers_behind (a ∷ rest) = refl
 
 end_is :
-    (ob other : ObName) (answers others : List Answer) (why cause : Why) → other ≡ ob → others ≡ drop 1 answers → cause ≡ why
+    (ob other : ObName) (answers others : List Answer) (why cause : Why) → other ≡ ob
+    → others ≡ drop 1 answers → cause ≡ why
     → end_by other others cause ≡ behind_first (end_by ob answers why)
 end_is ob other answers others why cause same is are =
     ap (λ (o : ObName). end_by o others cause) same ∙ ap (λ (l : List Answer). end_by ob l cause) is
@@ -82,7 +92,8 @@ module _ (f : Function) (budget : ℕ) (e : Ending) (bytes : List ℕ) where
   falls_spent (lists, asked, more) = (lists ∷ [], (asked, inl (more, refl)))
 
   -- all hold: the certificate is whole
-  module _ (count : ℕ) (turn : IsTurn f budget e bytes (search.AllHold count)) (answer : Short) (ended : IsEndedBy e bytes answer) where
+  module _ (count : ℕ) (turn : IsTurn f budget e bytes (search.AllHold count)) (answer : Short)
+      (ended : IsEndedBy e bytes answer) where
     text : ended.0.items ≡ low_header_text (level_of e.ob) e.cells ++ sections_text parts turn.2.trees ++ end_text
     text = ended.1 ∙ ap (λ (x : List ℕ). x ++ end_text) turn.2.written
 
@@ -108,25 +119,32 @@ module _ (f : Function) (budget : ℕ) (e : Ending) (bytes : List ℕ) where
     few_bytes : e.cells ≤ MAX_BOUND → length parts ≤ 24 → budget ≤ 1000000 → length ended.0.items ≤ 83886080
     few_bytes bounded few limit =
         let header = header_few (level_of e.ob) e.cells bounded in
-        let lines : length bytes ≡ length (low_header_text (level_of e.ob) e.cells) + length (sections_text parts turn.2.trees) =
-        ap length turn.2.written ∙ length-append (low_header_text (level_of e.ob) e.cells) (sections_text parts turn.2.trees) in
-        let whole : length ended.0.items ≡ length bytes + length end_text = ap length ended.1 ∙ length-append bytes end_text in
+        let lines : length bytes ≡ length (low_header_text (level_of e.ob) e.cells)
+        + length (sections_text parts turn.2.trees) =
+        ap length turn.2.written
+        ∙ length-append (low_header_text (level_of e.ob) e.cells) (sections_text parts turn.2.trees) in
+        let whole : length ended.0.items ≡ length bytes + length end_text = ap length ended.1
+        ∙ length-append bytes end_text in
         omega (arith, turn.2.few_bytes, turn.2.within)
 
     pub short_within : e.cells ≤ MAX_BOUND → length parts ≤ 24 → budget ≤ 1000000 → IsShortWithin 83886080 answer
-    short_within bounded few limit = subst (λ (s : Short). IsShortWithin 83886080 s) (sym ended.2) (few_bytes bounded few limit)
+    short_within bounded few limit =
+        subst (λ (s : Short). IsShortWithin 83886080 s) (sym ended.2) (few_bytes bounded few limit)
 
   -- one fails: the search goes on from there
   module _ (ob : ObName) (answers : Vec Answer Global) (why : Why)
       (turn : IsTurn f budget e bytes (search.Fails ob answers why)) where
     pub same_level : AllByRecursion (λ o. level_of o ≡ level_of e.ob) parts → level_of ob ≡ level_of e.ob
     same_level all =
-        (end_is_listed (λ o. level_of o ≡ level_of e.ob) plan (end_by ob answers.items why) parts turn.0 all turn.1 turn.2.1.first).here
+        (end_is_listed (λ o. level_of o ≡ level_of e.ob) plan (end_by ob answers.items why) parts turn.0 all
+        turn.1 turn.2.1.first).here
 
     -- the search goes on from the shorter end that fails
     pub falls_on :
-        (next : Ending) (answer : Short) → IsEnding f next → next.ob ≡ ob → next.answers.items ≡ drop 1 answers.items → next.why ≡ why
-        → (turns : List (List (ObQuestions Why))) × Falls f budget (failing_end_of next) next.cells turns answer → FallsTo answer
+        (next : Ending) (answer : Short) → IsEnding f next → next.ob ≡ ob
+        → next.answers.items ≡ drop 1 answers.items → next.why ≡ why
+        → (turns : List (List (ObQuestions Why)))
+        × Falls f budget (failing_end_of next) next.cells turns answer → FallsTo answer
     falls_on next answer ending same is because (turns, falls) =
         let there : failing_end_of next ≡ behind_first (end_by ob answers.items why) =
         end_is ob next.ob answers.items next.answers.items why next.why same is because in (
@@ -151,7 +169,8 @@ module _ (f : Function) (budget : ℕ) (e : Ending) (bytes : List ℕ) where
 
 -- a failing end with a low certificate of as many cells is a least one
 module _ (f : Function)
-    (breaks : (ob : ObName) (why : Why) (w : List Lit) (cells : ℕ) → IsTrue (is_obligation f.head ob) → LeadTo why (plan_of f ob) w
+    (breaks : (ob : ObName) (why : Why) (w : List Lit) (cells : ℕ) → IsTrue (is_obligation f.head ob)
+    → LeadTo why (plan_of f ob) w
     → HasCells ob w cells → IsBrokenAt f (level_of ob) cells) where
   pub breaks_at : (e : Ending) → IsEnding f e → IsBrokenAt f (level_of e.ob) e.cells
   breaks_at e ending =
@@ -176,7 +195,8 @@ module _ (f : Function)
   -- so the answer that is ended by the certificate is true
   pub is_true :
       ((bytes : List ℕ) (level : Level) (bound n : ℕ) → IsLow bytes f level bound → n < bound → HasAt f level n)
-      → (e : Ending) (bytes : List ℕ) (answer : Short) (ended : IsEndedBy e bytes answer) → IsEnding f e → IsBroken f (level_of e.ob)
+      → (e : Ending) (bytes : List ℕ) (answer : Short) (ended : IsEndedBy e bytes answer) → IsEnding f e
+      → IsBroken f (level_of e.ob)
       → IsLow ended.0.items f (level_of e.ob) e.cells → IsTrueOf f answer
   is_true shows e bytes answer ended ending broken low =
       subst (λ (s : Short). IsTrueOf f s) (sym ended.2) (is_least shows e ended.0.items ending broken low)

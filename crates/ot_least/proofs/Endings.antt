@@ -1,5 +1,6 @@
 -- Failing ends, and the ones of fewer cells behind the first question.
-use Rattle.std.proofs.Common.{◌≡◌, ℕ, ◌<◌, ℤ, pos, ◌-ℤ◌, ◌≤ℤ◌, Bool, true, false, List, [], ◌∷◌, length, drop, Some, arith}
+use Rattle.std.proofs.Common.{◌≡◌, ℕ, ◌<◌, ℤ, pos, ◌-ℤ◌, ◌≤ℤ◌, Bool, true, false, List, [], ◌∷◌, length, drop, Some}
+use Rattle.std.proofs.Common.{arith}
 use Rattle.std.proofs.lemmas.Int.{ints}
 use Rattle.diff_graph.specs.declared.lit.Lit.{Lit}
 use Rattle.diff_graph.specs.Literals.{IsPossible, answered_of}
@@ -42,18 +43,22 @@ module _ (f : Function) (ob : ObName) (why : Why) (bound : ℕ) where
       → AreAnswersTo (plan_of f ob) (drop 1 answers) (Fails why)
   way_behind [] way = cc
   way_behind (a ∷ rest) way =
-      behind_premise (record { x = length_name; y = zero_name; k = pos bound -ℤ pos 1 }) (plan_of f ob) why rest a.yes way.1
+      behind_premise (record { x = length_name; y = zero_name; k = pos bound -ℤ pos 1 })
+      (plan_of f ob) why rest a.yes way.1
 
   -- what the least values give behind the first question
   abbrev pub AreShorter : Type 0
   AreShorter =
-      (l : Lit) (rest : List Lit) (values : List ℤ) → LeadTo why (plan_below f (Some bound) ob) (l ∷ rest) → IsPossible (l ∷ rest)
+      (l : Lit) (rest : List Lit) (values : List ℤ)
+      → LeadTo why (plan_below f (Some bound) ob) (l ∷ rest) → IsPossible (l ∷ rest)
       → AreLeast rest (floors_of ob) values → valuation_of values length_name ≤ℤ (pos bound -ℤ pos 1)
 
   pub fewer_behind :
       AreShorter → (answers : List Answer) → AreAnswersTo (plan_below f (Some bound) ob) answers (Fails why)
-      → IsPossible (answered_by answers) → (cells : ℕ) → HasCells ob (answered_by (drop 1 answers)) cells → cells < bound
+      → IsPossible (answered_by answers) → (cells : ℕ)
+      → HasCells ob (answered_by (drop 1 answers)) cells → cells < bound
   fewer_behind shorter [] way possible cells has = cc
   fewer_behind shorter (a ∷ rest) way possible cells (values, least, is) =
       below cells bound (valuation_of values length_name)
-      (shorter (answered_of a.lit a.yes) (answered_by rest) values (literals_lead why (plan_below f (Some bound) ob) (a ∷ rest) way) possible least) is
+      (shorter (answered_of a.lit a.yes) (answered_by rest) values
+      (literals_lead why (plan_below f (Some bound) ob) (a ∷ rest) way) possible least) is

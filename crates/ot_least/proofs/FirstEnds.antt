@@ -28,17 +28,22 @@ few : (z : ℤ) (cells : ℕ) → z ≡ pos cells → z ≤ℤ pos 1000 → MAX_
 few z cells is at_most more = omega (arith, ints)
 
 module _ (f : Function) (budget : ℕ)
-    (short_ends : (ob : ObName) (q : Questions Why) (e : FailingEnd Why) (values : List ℤ) → QuestionList (plan_of f ob) [] q
+    (short_ends : (ob : ObName) (q : Questions Why) (e : FailingEnd Why) (values : List ℤ)
+    → QuestionList (plan_of f ob) [] q
     → q.failing ≡ Some e → AreLeast e.answers (floors_of ob) values → valuation_of values length_name ≤ℤ pos 1000) where
-  few_cells : (x : FailingOb Why) (cells : ℕ) → IsListed (λ _. Unit {0}) (plan_of f) x → EndHasCells x cells → MAX_BOUND < cells → ⊥
+  few_cells : (x : FailingOb Why) (cells : ℕ) → IsListed (λ _. Unit {0}) (plan_of f) x
+      → EndHasCells x cells → MAX_BOUND < cells → ⊥
   few_cells x cells listed (values, least, is) more =
-      few (valuation_of values length_name) cells is (short_ends x.ob listed.questions x.end values listed.list listed.fails least) more
+      few (valuation_of values length_name) cells is
+      (short_ends x.ob listed.questions x.end values listed.list listed.fails least) more
 
   falls_short :
-      (turns : List (List (ObQuestions Why))) (x : FailingOb Why) (cells : ℕ) (short : Short) → Falls f budget x cells turns short
+      (turns : List (List (ObQuestions Why))) (x : FailingOb Why) (cells : ℕ) (short : Short)
+      → Falls f budget x cells turns short
       → short ≡ TooLong → ⊥
   falls_short [] x cells short falls is = absurd falls
-  falls_short (lists ∷ turns) x cells short (_, inl (_, spent)) is = absurd (let not : Spent ≡ TooLong = sym spent ∙ is in cc)
+  falls_short (lists ∷ turns) x cells short (_, inl (_, spent)) is =
+      absurd (let not : Spent ≡ TooLong = sym spent ∙ is in cc)
   falls_short (lists ∷ turns) x cells short (_, inr (inl (_, _, tells))) is =
       absurd (subst (λ (s : Short). TellsLeast f x cells lists s) is tells)
   falls_short (lists ∷ turns) x cells short (_, inr (inr (_, (next, fewer, _, (_, falls))))) is =
@@ -51,10 +56,12 @@ module _ (f : Function) (budget : ℕ)
   begins_short lists x cells short asked first has (inl (more, _)) is =
       let obs = obligations_of f.head Tp2 in
       few_cells x cells (end_is_listed (λ _. Unit {0}) (plan_of f) x obs lists (all_any obs) asked first) has more
-  begins_short lists x cells short asked first has (inr (_, (turns, falls))) is = falls_short turns x cells short falls is
+  begins_short lists x cells short asked first has (inr (_, (turns, falls))) is =
+      falls_short turns x cells short falls is
 
   pub never_too_long : (short : Short) → IsShort f budget short → short ≡ TooLong → ⊥
   never_too_long short (lists, asked, inl (_, spent)) is = absurd (let not : Spent ≡ TooLong = sym spent ∙ is in cc)
-  never_too_long short (lists, asked, inr (inl (_, _, fine))) is = absurd (let not : Fine ≡ TooLong = sym fine ∙ is in cc)
+  never_too_long short (lists, asked, inr (inl (_, _, fine))) is =
+      absurd (let not : Fine ≡ TooLong = sym fine ∙ is in cc)
   never_too_long short (lists, asked, inr (inr (_, (x, cells, first, (has, begins))))) is =
       begins_short lists x cells short asked first has begins is

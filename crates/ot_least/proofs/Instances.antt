@@ -25,10 +25,12 @@ document_count v why cells is =
 
 -- the least values that meet the answers name a document and operations at which the property is broken
 pub instance_there :
-    ((f : Function) (ob : ObName) (w : List Lit) (why : Why) (values : List ℤ) → IsTrue (is_valid f) → IsTrue (is_obligation f.head ob)
+    ((f : Function) (ob : ObName) (w : List Lit) (why : Why) (values : List ℤ) → IsTrue (is_valid f)
+    → IsTrue (is_obligation f.head ob)
     → LeadTo why (plan_of f ob) w → AreLeast w (floors_of ob) values
     → Breaks f (level_of ob) (document_at (valuation_of values) why) (ops_at (valuation_of values) ob))
-    → (f : Function) (ob : ObName) (why : Why) (w : List Lit) (cells : ℕ) → IsTrue (is_valid f) → IsTrue (is_obligation f.head ob)
+    → (f : Function) (ob : ObName) (why : Why) (w : List Lit) (cells : ℕ) → IsTrue (is_valid f)
+    → IsTrue (is_obligation f.head ob)
     → LeadTo why (plan_of f ob) w → HasCells ob w cells → IsBrokenAt f (level_of ob) cells
 instance_there broken f ob why w cells valid listed lead (values, least, count) = record {
   doc = document_at (valuation_of values) why;

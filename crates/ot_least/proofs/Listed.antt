@@ -26,13 +26,16 @@ module _ (P : ObName → Type 0) (plan : ObName → Plan Why) (x : FailingOb Why
       (ob : ObName) (e : FailingEnd Why) (q : Questions Why) → P ob → QuestionList (plan ob) [] q → q.failing ≡ Some e
       → record { ob = ob; end = e } ≡ x → IsListed P plan x
   listed_here ob e q holds list fails is =
-      subst (λ (y : FailingOb Why). IsListed P plan y) is (record { here = holds; questions = q; list = list; fails = fails })
+      subst (λ (y : FailingOb Why). IsListed P plan y) is
+      (record { here = holds; questions = q; list = list; fails = fails })
 
   -- the failing end is of this obligation, or else of one of the later ones
   here_or_later :
-      (ob : ObName) (obs : List ObName) (q : Questions Why) (failing : Option (FailingEnd Why)) (lists : List (ObQuestions Why))
+      (ob : ObName) (obs : List ObName) (q : Questions Why) (failing : Option (FailingEnd Why))
+      (lists : List (ObQuestions Why))
       → P ob → QuestionList (plan ob) [] q
-      → ((later : List (ObQuestions Why)) → AreAsked plan obs later → IsEnd (failing_in later) → IsListed P plan x) → q.failing ≡ failing
+      → ((later : List (ObQuestions Why)) → AreAsked plan obs later → IsEnd (failing_in later) → IsListed P plan x)
+      → q.failing ≡ failing
       → MatchOption failing
       ((later : List (ObQuestions Why)) × AreAsked plan obs later × (lists ≡ record { ob = ob; questions = q } ∷ later))
       (λ _. lists ≡ record { ob = ob; questions = q } ∷ [])
@@ -54,4 +57,5 @@ module _ (P : ObName → Type 0) (plan : ObName → Plan Why) (x : FailingOb Why
   end_is_listed [] lists all asked end =
       let none : None ≡ Some x = subst (λ (l : List (ObQuestions Why)). IsEnd (failing_in l)) asked end in absurd (cc)
   end_is_listed (ob ∷ obs) lists all (q, list, joins) end =
-      here_or_later ob obs q q.failing lists all.0 list (λ later asked. end_is_listed obs later all.1 asked) refl joins end
+      here_or_later ob obs q q.failing lists all.0 list
+      (λ later asked. end_is_listed obs later all.1 asked) refl joins end

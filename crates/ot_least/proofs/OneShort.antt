@@ -1,5 +1,6 @@
 -- A function has one shortest document, but for its certificate.
-use Rattle.std.proofs.Common.{◌≡◌, ℕ, ℤ, pos, ◌≤ℤ◌, List, [], ◌∷◌, Option, Some, None, inl, inr, refl, sym, subst, ◌∙◌, arith}
+use Rattle.std.proofs.Common.{◌≡◌, ℕ, ℤ, pos, ◌≤ℤ◌, List, [], ◌∷◌, Option, Some, None, inl, inr, refl, sym, subst, ◌∙◌}
+use Rattle.std.proofs.Common.{arith}
 use Rattle.std.proofs.lemmas.Int.{ints}
 use Rattle.diff_graph.specs.declared.lit.Lit.{Lit}
 use Rattle.diff_tables.specs.Solutions.{valuation_of}
@@ -15,7 +16,8 @@ use Rattle.ot_least.specs.declared.short.Short.{Short}
 use Rattle.ot_least.specs.declared.short.Short.TheVariants.{Fine, Least, TooLong, Spent}
 use Rattle.ot_bound.specs.Lows.{parts_of}
 use Rattle.ot_least.proofs.Shorter.{has_length}
-use Rattle.ot_least.specs.Shortest.{AreAlikeAnswers, BeginsTurns, Comes, EndHasCells, Falls, HasCells, IsShort, TellsLeast, behind_first}
+use Rattle.ot_least.specs.Shortest.{AreAlikeAnswers, BeginsTurns, Comes, EndHasCells, Falls, HasCells, IsShort}
+use Rattle.ot_least.specs.Shortest.{TellsLeast, behind_first}
 
 same_number : (a b : ℤ) (n m : ℕ) → a ≤ℤ b → b ≤ℤ a → a ≡ pos n → b ≡ pos m → n ≡ m
 same_number a b n m low high one other = omega (arith, ints)
@@ -39,16 +41,21 @@ comes_once :
     → (S → T → Goal) → (H → I → Goal) → ((end : FailingOb Why) (n m : ℕ) → E end n → D end m → Goal)
     → Comes budget lists S H E → Comes budget lists T I D → Goal
 comes_once E D budget lists spends holds ends (inl (more, s)) (inl (_, t)) = spends s t
-comes_once E D budget lists spends holds ends (inl (more, s)) (inr (inl (few, none, i))) = absurd (omega (arith, more, few))
-comes_once E D budget lists spends holds ends (inl (more, s)) (inr (inr (few, rest))) = absurd (omega (arith, more, few))
-comes_once E D budget lists spends holds ends (inr (inl (few, none, h))) (inl (more, t)) = absurd (omega (arith, more, few))
+comes_once E D budget lists spends holds ends (inl (more, s)) (inr (inl (few, none, i))) =
+    absurd (omega (arith, more, few))
+comes_once E D budget lists spends holds ends (inl (more, s)) (inr (inr (few, rest))) =
+    absurd (omega (arith, more, few))
+comes_once E D budget lists spends holds ends (inr (inl (few, none, h))) (inl (more, t)) =
+    absurd (omega (arith, more, few))
 comes_once E D budget lists spends holds ends (inr (inl (few, none, h))) (inr (inl (_, _, i))) = holds h i
 comes_once E D budget lists spends holds ends (inr (inl (few, none, h))) (inr (inr (_, (end, n, some, d)))) =
     absurd (some_or_none (failing_in lists) end none some)
-comes_once E D budget lists spends holds ends (inr (inr (few, rest))) (inl (more, t)) = absurd (omega (arith, more, few))
+comes_once E D budget lists spends holds ends (inr (inr (few, rest))) (inl (more, t)) =
+    absurd (omega (arith, more, few))
 comes_once E D budget lists spends holds ends (inr (inr (few, (end, n, some, e)))) (inr (inl (_, none, i))) =
     absurd (some_or_none (failing_in lists) end none some)
-comes_once E D budget lists spends holds ends (inr (inr (few, (end, n, some, e)))) (inr (inr (_, (other, m, also, d)))) =
+comes_once E D budget lists spends holds ends (inr (inr (few, (end, n, some, e))))
+    (inr (inr (_, (other, m, also, d)))) =
     let same : other ≡ end = end_once (failing_in lists) other end also some in
     ends end n m e (subst (λ (x : FailingOb Why). D x m) same d)
 
@@ -63,7 +70,8 @@ alike a b same = subst (λ (x : Short). AreAlikeAnswers a x) same (alike_self a)
 
 -- question lists tell one answer, but for its certificate
 tells_once :
-    (f : Function) (end : FailingOb Why) (cells : ℕ) (lists : List (ObQuestions Why)) (a b : Short) → TellsLeast f end cells lists a
+    (f : Function) (end : FailingOb Why) (cells : ℕ) (lists : List (ObQuestions Why)) (a b : Short)
+    → TellsLeast f end cells lists a
     → TellsLeast f end cells lists b → AreAlikeAnswers a b
 tells_once f end cells lists (Least ob answers why n cert) (Least other others cause m bytes) one two =
     (one.0 ∙ sym two.0, one.1 ∙ sym two.1)
@@ -77,7 +85,8 @@ tells_once f end cells lists Spent b one two = absurd one
 -- there is one list of question lists
 abbrev pub OneList : Type 0
 OneList =
-    (f : Function) (below : Option ℕ) (obs : List ObName) (lists others : List (ObQuestions Why)) → AreAsked (plan_below f below) obs lists
+    (f : Function) (below : Option ℕ) (obs : List ObName) (lists others : List (ObQuestions Why))
+    → AreAsked (plan_below f below) obs lists
     → AreAsked (plan_below f below) obs others → lists ≡ others
 
 module _ (one_list : OneList) (f : Function) (budget : ℕ) where
@@ -103,11 +112,13 @@ module _ (one_list : OneList) (f : Function) (budget : ℕ) where
       (λ next m. EndHasCells (behind_first next) m × Falls f budget (behind_first next) m others b))
       same comes')
 
-  begins_once : (end : FailingOb Why) (cells : ℕ) (a b : Short) → BeginsTurns f budget end cells a → BeginsTurns f budget end cells b → AreAlikeAnswers a b
+  begins_once : (end : FailingOb Why) (cells : ℕ) (a b : Short) → BeginsTurns f budget end cells a
+      → BeginsTurns f budget end cells b → AreAlikeAnswers a b
   begins_once end cells a b (inl (long, is)) (inl (_, are)) = alike a b (is ∙ sym are)
   begins_once end cells a b (inl (long, is)) (inr (short, rest)) = absurd (omega (arith, long, short))
   begins_once end cells a b (inr (short, rest)) (inl (long, is)) = absurd (omega (arith, long, short))
-  begins_once end cells a b (inr (short, (turns, falls))) (inr (_, (others, also))) = falls_once turns others end cells a b falls also
+  begins_once end cells a b (inr (short, (turns, falls))) (inr (_, (others, also))) =
+      falls_once turns others end cells a b falls also
 
   module _ (one_first : (obs : List ObName) (lists others : List (ObQuestions Why)) → AreAsked (plan_of f) obs lists
       → AreAsked (plan_of f) obs others → lists ≡ others) where
@@ -116,12 +127,12 @@ module _ (one_list : OneList) (f : Function) (budget : ℕ) where
     short_once a b (lists, asked, comes) (more, asked', comes') =
         let same : more ≡ lists = one_first (obligations_of f.head Tp2) more lists asked' asked in
         comes_once
-        (λ end n. EndHasCells end n × BeginsTurns f budget end n a) (λ end m. EndHasCells end m × BeginsTurns f budget end m b)
-        budget lists (λ s t. alike a b (s ∙ sym t)) (λ s t. alike a b (s ∙ sym t))
+        (λ end n. EndHasCells end n × BeginsTurns f budget end n a) (λ end m. EndHasCells end m
+        × BeginsTurns f budget end m b) budget lists (λ s t. alike a b (s ∙ sym t)) (λ s t. alike a b (s ∙ sym t))
         (λ end n m one two.
         let count : m ≡ n = cells_once end.ob end.end.answers m n two.0 one.0 in
         begins_once end n a b one.1 (subst (λ (k : ℕ). BeginsTurns f budget end k b) count two.1))
         comes
         (subst
-        (λ (l : List (ObQuestions Why)). Comes budget l (b ≡ Spent) (b ≡ Fine) (λ end m. EndHasCells end m × BeginsTurns f budget end m b))
-        same comes')
+        (λ (l : List (ObQuestions Why)). Comes budget l (b ≡ Spent) (b ≡ Fine)
+        (λ end m. EndHasCells end m × BeginsTurns f budget end m b)) same comes')

@@ -21,9 +21,8 @@ ghost use Rattle.ot_least.specs.Shortest.{AreAlikeAnswers, HasCells, IsBrokenAt,
 use ask_core::answers_lead_to_ends;
 use ot_counter::failing_ends_have_counterexamples;
 use ot_decide::obligations_have_one_question_list;
-use ot_lengths::first_documents_have_at_most_1000_cells;
 use ot_questions::{Why, pair_plans_mean_tp1, plans_compare_like_with_like, triple_plans_mean_tp2};
-use ot_values::answers_have_least_values;
+use ot_values::{answers_have_least_values, first_documents_have_at_most_1000_cells};
 
 /// Where answers lead to an end of an obligation that fails, the property does not hold on the documents of as many
 /// cells as any integers that meet the answers give to the length. The least such values name a document of so many

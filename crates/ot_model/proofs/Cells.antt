@@ -1,5 +1,6 @@
 -- Cells that are equal, and the edit of one cell of a document.
-use Rattle.std.proofs.Common.{◌≡◌, ℕ, ◌+◌, ◌<◌, List, [], ◌∷◌, length, take, drop, ap, ap₂, Bool, ◌==◌, ◌&&◌, refl, add-one, append_assoc, eqb-true, eq-eqb}
+use Rattle.std.proofs.Common.{◌≡◌, ℕ, ◌+◌, ◌<◌, List, [], ◌∷◌, length, take, drop, ap, ap₂, Bool, ◌==◌, ◌&&◌, refl}
+use Rattle.std.proofs.Common.{add-one, append_assoc, eqb-true, eq-eqb}
 use Rattle.std.specs.Prelude.{slice_set, slice_get, Some, zero, suc}
 use Rattle.std.specs.Bool.{Decides, beq}
 use Rattle.std.specs.Cmp.{booleans_Decides}
@@ -19,7 +20,8 @@ cell_eq-Decides a b = (
 )
 
 -- a cell that is set is an edit of one place
-pub slice_set-with_cells : (doc : List Cell) (at : ℕ) (x : Cell) → at < length doc → slice_set doc at x ≡ with_cells at 1 (x ∷ []) doc
+pub slice_set-with_cells : (doc : List Cell) (at : ℕ) (x : Cell) → at < length doc
+    → slice_set doc at x ≡ with_cells at 1 (x ∷ []) doc
 slice_set-with_cells doc at x inside =
     rw (set_split doc at x inside, append_assoc (take at doc) (x ∷ []) (drop (at + 1) doc), add-one at) refl
 

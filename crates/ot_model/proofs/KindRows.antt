@@ -23,8 +23,8 @@ Contains-flat_map f (y ∷ ys) x a (suc i) below is here =
     Contains-append_right (f y) (flat_map f ys) a (Contains-flat_map f ys x a i (omega arith) is here)
 
 -- what a list holds, its image holds
-pub Contains-map : {X A : Type 0} (f : X → A) (xs : List X) (x : X) (i : ℕ) → i < length xs → slice_index_or xs i x ≡ x →
-    Contains (map f xs) (f x)
+pub Contains-map : {X A : Type 0} (f : X → A) (xs : List X) (x : X) (i : ℕ) → i < length xs → slice_index_or xs i x ≡ x
+    → Contains (map f xs) (f x)
 Contains-map f [] x i below is = absurd (omega arith)
 Contains-map f (y ∷ ys) x zero below is = Contains-append_left (f y ∷ []) (map f ys) (f x) (0, lit< tt, ap f is)
 Contains-map f (y ∷ ys) x (suc i) below is =

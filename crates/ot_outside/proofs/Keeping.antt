@@ -11,7 +11,8 @@ pub kept_on :
     {S : Type 0} {shelf : Ghosts S} (before old new : ShelfFeed S shelf) → KeepsShelf before old
     → Unchanged shelf.holds shelf.offered shelf.faults (shelf_of old) (shelf_of new)
     → IsSameReading (shelf.reads (shelf_of old)) (shelf.reads (shelf_of new)) → (IsAllOfReads old → IsAllOfReads new)
-    → length (gave_by new) + room_of new ≡ length (gave_by old) + room_of old → beyond_limit new ≡ beyond_limit old → KeepsShelf before new
+    → length (gave_by new) + room_of new ≡ length (gave_by old) + room_of old
+    → beyond_limit new ≡ beyond_limit old → KeepsShelf before new
 kept_on before old new kept unchanged reading read limit beyond =
     record {
       unchanged = record {

@@ -1,7 +1,9 @@
 -- What is left of a file that is read in pieces.
-use Rattle.std.proofs.Common.{◌≡◌, ℕ, ◌+◌, ◌-◌, ◌≤◌, ◌<◌, zero, suc, List, [], ◌∷◌, ◌++◌, take, drop, length, get_or, Bool, true, false, ◌↔◌, IsTrue, Option}
-use Rattle.std.proofs.Common.{Some, None, Result, Ok, Err, IfOk, refl, sym, ap, ◌∙◌, arith, subst, drop-cons, add-one, append_assoc, length-append}
-use Rattle.std.proofs.lemmas.List.{drop-drop, drop-take, length-drop, length-take, length-take-le, get_or-take, take_all, take-append-drop}
+use Rattle.std.proofs.Common.{◌≡◌, ℕ, ◌+◌, ◌-◌, ◌≤◌, ◌<◌, zero, suc, List, [], ◌∷◌, ◌++◌, take, drop, length, get_or}
+use Rattle.std.proofs.Common.{Bool, true, false, ◌↔◌, IsTrue, Option, Some, None, Result, Ok, Err, IfOk, refl, sym, ap}
+use Rattle.std.proofs.Common.{◌∙◌, arith, subst, drop-cons, add-one, append_assoc, length-append}
+use Rattle.std.proofs.lemmas.List.{drop-drop, drop-take, length-drop, length-take, length-take-le, get_or-take}
+use Rattle.std.proofs.lemmas.List.{take_all, take-append-drop}
 use Rattle.std.specs.Prelude.{option_map}
 use Rattle.std.specs.Option.{ForSome}
 use Rattle.std.specs.Io.KnownBytes.{IsAtEnd, prepend_known}
@@ -17,7 +19,8 @@ prepend_known-nil None = refl
 prepend_known-nil (Some bytes) = refl
 
 -- where the piece was given whole, what is left of the file is what is left of the shelf
-pub used_up : (at filled : ℕ) (piece : List ℕ) (left : Option (List ℕ)) → at ≡ filled → prepend_known (drop at (take filled piece)) left ≡ left
+pub used_up : (at filled : ℕ) (piece : List ℕ) (left : Option (List ℕ)) → at ≡ filled
+    → prepend_known (drop at (take filled piece)) left ≡ left
 used_up at filled piece left e = rw (e, drop-take_same, prepend_known-nil) refl
 
 -- the next byte of the piece, and those behind it
@@ -27,12 +30,14 @@ next_of_piece :
 next_of_piece at filled piece below within =
     let len : length (take filled piece) ≡ filled = length-take-le filled piece within in
     let there : at < length (take filled piece) = omega arith in
-    rw add-one (drop-cons (take filled piece) at 0 there ∙ ap (λ b. b ∷ drop (suc at) (take filled piece)) (get_or-take filled piece at 0 below))
+    rw add-one (drop-cons (take filled piece) at 0 there
+    ∙ ap (λ b. b ∷ drop (suc at) (take filled piece)) (get_or-take filled piece at 0 below))
 
 -- a byte at the front of what is given
 give_first :
     (room b : ℕ) (bytes : List ℕ) (left : Option (List ℕ)) → 0 < room
-    → option_map (take room) (prepend_known (b ∷ bytes) left) ≡ prepend_known (b ∷ []) (option_map (take (room - 1)) (prepend_known bytes left))
+    → option_map (take room) (prepend_known (b ∷ bytes) left)
+    ≡ prepend_known (b ∷ []) (option_map (take (room - 1)) (prepend_known bytes left))
 give_first zero b bytes left some = absurd (omega arith)
 give_first (suc n) b bytes None some = refl
 give_first (suc n) b bytes (Some more) some = let one : suc n - 1 ≡ n = omega arith in rw one refl
@@ -41,9 +46,11 @@ give_first (suc n) b bytes (Some more) some = let one : suc n - 1 ≡ n = omega 
 pub next_given :
     (room at filled : ℕ) (piece : List ℕ) (left : Option (List ℕ)) → 0 < room → at < filled → filled ≤ length piece
     → option_map (take room) (prepend_known (drop at (take filled piece)) left)
-    ≡ prepend_known (get_or piece at 0 ∷ []) (option_map (take (room - 1)) (prepend_known (drop (at + 1) (take filled piece)) left))
+    ≡ prepend_known (get_or piece at 0 ∷ [])
+    (option_map (take (room - 1)) (prepend_known (drop (at + 1) (take filled piece)) left))
 next_given room at filled piece left some below within =
-    rw (next_of_piece at filled piece below within) (give_first room (get_or piece at 0) (drop (at + 1) (take filled piece)) left some)
+    rw (next_of_piece at filled piece below within)
+    (give_first room (get_or piece at 0) (drop (at + 1) (take filled piece)) left some)
 
 -- a byte that is given was not beyond the limit
 beyond_first :
@@ -58,7 +65,8 @@ pub beyond_given :
     → option_map (drop (room - 1)) (prepend_known (drop (at + 1) (take filled piece)) left)
     ≡ option_map (drop room) (prepend_known (drop at (take filled piece)) left)
 beyond_given room at filled piece left some below within =
-    rw (next_of_piece at filled piece below within) (beyond_first room (get_or piece at 0) (drop (at + 1) (take filled piece)) left some)
+    rw (next_of_piece at filled piece below within)
+    (beyond_first room (get_or piece at 0) (drop (at + 1) (take filled piece)) left some)
 
 -- a feed with no room left is at its end
 pub no_room : (room : ℕ) (file : Option (List ℕ)) → room ≡ 0 → IsAtEnd (option_map (take room) file)
@@ -82,7 +90,8 @@ some_left at filled piece (Some more) bytes below within is =
 
 -- whether a byte is left of a file whose limit was reached
 told :
-    (room : ℕ) (more : Bool) (bytes : List ℕ) → room ≡ 0 → (more ≡ true → 0 < length bytes) → (more ≡ false → bytes ≡ [])
+    (room : ℕ) (more : Bool) (bytes : List ℕ) → room ≡ 0 → (more ≡ true → 0 < length bytes)
+    → (more ≡ false → bytes ≡ [])
     → IsTrue more ↔ ((room ≡ 0) × (0 < length bytes))
 told room true bytes none some end = (λ t. (none, some refl), λ h. refl)
 told room false bytes none some end = (λ t. cc, λ h. absurd (omega (arith, h.1, ap length (end refl))))
@@ -139,28 +148,33 @@ dropped_in_two (suc r) (suc n) (x ∷ a) b within =
 -- the bytes at hand are the next ones
 pub hand_first :
     (room : ℕ) (hand : List ℕ) (left : Option (List ℕ))
-    → (rest : Option (List ℕ)) × (option_map (take room) (prepend_known hand left) ≡ prepend_known (take room hand) rest)
+    → (rest : Option (List ℕ))
+    × (option_map (take room) (prepend_known hand left) ≡ prepend_known (take room hand) rest)
 hand_first room hand None = (None, refl)
 hand_first room hand (Some more) = (Some (take (room - length hand) more), ap Some (take-over room hand more))
 
 -- where some of them are taken, the others and those behind them are left
 pub hand_taken :
-    (room count at filled : ℕ) (piece : List ℕ) (left : Option (List ℕ)) → count ≤ length (take room (drop at (take filled piece)))
+    (room count at filled : ℕ) (piece : List ℕ) (left : Option (List ℕ))
+    → count ≤ length (take room (drop at (take filled piece)))
     → option_map (take room) (prepend_known (drop at (take filled piece)) left)
     ≡ prepend_known (take count (take room (drop at (take filled piece))))
     (option_map (take (room - count)) (prepend_known (drop (at + count) (take filled piece)) left))
 hand_taken room count at filled piece None within = refl
 hand_taken room count at filled piece (Some more) within =
-    rw (← drop-drop count at (take filled piece)) (ap Some (taken_in_two room count (drop at (take filled piece)) more within))
+    rw (← drop-drop count at (take filled piece))
+    (ap Some (taken_in_two room count (drop at (take filled piece)) more within))
 
 -- and none of them was beyond the limit
 pub beyond_taken :
-    (room count at filled : ℕ) (piece : List ℕ) (left : Option (List ℕ)) → count ≤ length (take room (drop at (take filled piece)))
+    (room count at filled : ℕ) (piece : List ℕ) (left : Option (List ℕ))
+    → count ≤ length (take room (drop at (take filled piece)))
     → option_map (drop (room - count)) (prepend_known (drop (at + count) (take filled piece)) left)
     ≡ option_map (drop room) (prepend_known (drop at (take filled piece)) left)
 beyond_taken room count at filled piece None within = refl
 beyond_taken room count at filled piece (Some more) within =
-    rw (← drop-drop count at (take filled piece)) (ap Some (dropped_in_two room count (drop at (take filled piece)) more within))
+    rw (← drop-drop count at (take filled piece))
+    (ap Some (dropped_in_two room count (drop at (take filled piece)) more within))
 
 -- the part of the piece that was read and not given yet
 pub hand_is_part :
@@ -175,7 +189,8 @@ pub hand_is_all :
     → take (filled - at) (drop at piece) ≡ take room (drop at (take filled piece))
 hand_is_all room at filled piece ordered within below =
     hand_is_part at filled piece ordered
-    ∙ sym (take_all room (drop at (take filled piece)) (omega (arith, length-drop at (take filled piece), length-take-le filled piece within)))
+    ∙ sym (take_all room (drop at (take filled piece))
+    (omega (arith, length-drop at (take filled piece), length-take-le filled piece within)))
 
 -- beyond it a front of it is
 pub hand_is_front :
@@ -209,10 +224,12 @@ take_first (suc n) (suc m) (b ∷ bytes) few = ap (λ (l : List ℕ). b ∷ l) (
 
 -- so many of the bytes at hand are so many of the piece
 pub slice_of_hand :
-    (room count at filled : ℕ) (piece : List ℕ) → at ≤ filled → filled ≤ length piece → count ≤ length (take room (drop at (take filled piece)))
+    (room count at filled : ℕ) (piece : List ℕ) → at ≤ filled → filled ≤ length piece
+    → count ≤ length (take room (drop at (take filled piece)))
     → take count (take room (drop at (take filled piece))) ≡ take count (drop at piece)
 slice_of_hand room count at filled piece ordered within few =
-    let read : length (drop at (take filled piece)) ≡ filled - at = length-drop at (take filled piece) ∙ ap (λ n. n - at) (length-take-le filled piece within)
+    let read : length (drop at (take filled piece)) ≡ filled - at = length-drop at (take filled piece)
+    ∙ ap (λ n. n - at) (length-take-le filled piece within)
     in
     let taken = length-take room (drop at (take filled piece)) in
     take_first count room (drop at (take filled piece)) (omega (arith, few, taken))
@@ -221,7 +238,8 @@ slice_of_hand room count at filled piece ordered within few =
 
 -- what was read is what was given and what was not given yet: behind a byte that is given,
 pub read_given :
-    (at filled : ℕ) (piece given read : List ℕ) → at < filled → filled ≤ length piece → read ≡ given ++ drop at (take filled piece)
+    (at filled : ℕ) (piece given read : List ℕ) → at < filled → filled ≤ length piece
+    → read ≡ given ++ drop at (take filled piece)
     → read ≡ (given ++ get_or piece at 0 ∷ []) ++ drop (at + 1) (take filled piece)
 read_given at filled piece given read below within is =
     is ∙ ap (λ (l : List ℕ). given ++ l) (next_of_piece at filled piece below within)
@@ -236,9 +254,12 @@ read_taken room count at filled piece given read few is =
     is ∙ ap (λ (l : List ℕ). given ++ l)
     (sym (take-append-drop count (drop at (take filled piece)))
     ∙ ap (λ (l : List ℕ). l ++ drop count (drop at (take filled piece)))
-    (sym (take_first count room (drop at (take filled piece)) (omega (arith, few, length-take room (drop at (take filled piece))))))
-    ∙ ap (λ (l : List ℕ). take count (take room (drop at (take filled piece))) ++ l) (drop-drop count at (take filled piece)))
-    ∙ sym (append_assoc given (take count (take room (drop at (take filled piece)))) (drop (at + count) (take filled piece)))
+    (sym (take_first count room (drop at (take filled piece))
+    (omega (arith, few, length-take room (drop at (take filled piece))))))
+    ∙ ap (λ (l : List ℕ). take count (take room (drop at (take filled piece))) ++ l)
+    (drop-drop count at (take filled piece)))
+    ∙ sym (append_assoc given (take count (take room (drop at (take filled piece))))
+    (drop (at + count) (take filled piece)))
 
 -- what was given and what may be given make up the limit: behind a byte that is given,
 pub limit_given :
@@ -249,7 +270,8 @@ limit_given before given after b was room more same left some =
 
 -- and behind some of those at hand
 pub limit_taken :
-    (given after bytes : List ℕ) (count room : ℕ) → after ≡ given ++ take count (take room bytes) → count ≤ length (take room bytes)
+    (given after bytes : List ℕ) (count room : ℕ) → after ≡ given ++ take count (take room bytes)
+    → count ≤ length (take room bytes)
     → length after + (room - count) ≡ length given + room
 limit_taken given after bytes count room more few =
     omega (

@@ -21,11 +21,12 @@ use Rattle.ot_terms.specs.Goals.{GoalTree, If}
 use Rattle.ot_terms.specs.Standing.{ask_form, ask_goal}
 use Rattle.ot_rewrite.specs.Splits.{comparisons_left}
 use Rattle.ot_paths.specs.Nodes.{IsNode, literal}
-use Rattle.laid_goals.proofs.LaidForms.{IsPlace-before}
+use Rattle.ot_paths.proofs.LaidForms.{IsPlace-before}
 
 -- what goes on with two plans: its literals are fine where theirs are, and a path has at most so many more questions
 record GoesOn (count more : ℕ) (p q r : Plan Why) : Type 0 where
-  literals : IsTrue (has_fine_literals count p) → IsTrue (has_fine_literals count q) → IsTrue (has_fine_literals count r)
+  literals : IsTrue (has_fine_literals count p) → IsTrue (has_fine_literals count q)
+      → IsTrue (has_fine_literals count r)
   paths : longest_path r ≤ more + max (longest_path p) (longest_path q)
 
 module _ (count : ℕ) where
@@ -72,14 +73,15 @@ module _ (count : ℕ) where
   }
 
   -- a form asks fine literals, and on a path at most as many as it compares
-  form_goes_on : (g : FormTree) (p q : Plan Why) → HasPlaces count g → GoesOn count (comparisons_left g) p q (ask_form g p q)
+  form_goes_on : (g : FormTree) (p q : Plan Why) → HasPlaces count g
+      → GoesOn count (comparisons_left g) p q (ask_form g p q)
   unfolding ask_form ask_lt ask_eq ask_le
   form_goes_on True p q h = record { literals = λ hp hq. hp; paths = omega arith }
   form_goes_on (Le x y) p q h = le_goes_on x y p q h.0 h.1
   form_goes_on (Lt x y) p q h = le_goes_on x (plus y (negsuc 0)) p q h.0 (IsPlace-before count y h.1)
   form_goes_on (Eq x y) p q h =
-      on_yes_goes_on 1 1 p q (ask_le y x p q) (ask_le x y (ask_le y x p q) q) (le_goes_on x y (ask_le y x p q) q h.0 h.1)
-      (le_goes_on y x p q h.1 h.0)
+      on_yes_goes_on 1 1 p q (ask_le y x p q) (ask_le x y (ask_le y x p q) q)
+      (le_goes_on x y (ask_le y x p q) q h.0 h.1) (le_goes_on y x p q h.1 h.0)
   form_goes_on (And g h) p q both =
       on_yes_goes_on (comparisons_left g) (comparisons_left h) p q (ask_form h p q) (ask_form g (ask_form h p q) q)
       (form_goes_on g (ask_form h p q) q both.0) (form_goes_on h p q both.1)
@@ -91,16 +93,24 @@ module _ (count : ℕ) where
       record { literals = λ hp hq. turned.literals hq hp; paths = omega (arith, turned.paths) }
 
 module _ (f : Function) (ob : ObName) where
-  pub end_nodes : (why : Why) → IsTrue (is_obligation f.head ob) → IsNode f ob goals.Holds × IsNode f ob (goals.Fails why)
+  pub end_nodes : (why : Why) → IsTrue (is_obligation f.head ob)
+      → IsNode f ob goals.Holds × IsNode f ob (goals.Fails why)
   unfolding ask_goal
   end_nodes why declared = (
-    record { goal = record { declared = declared; parts = tt }; fine = record { literals = refl; paths = omega arith } },
-    record { goal = record { declared = declared; parts = tt }; fine = record { literals = refl; paths = omega arith } },
+    record {
+      goal = record { declared = declared; parts = tt };
+      fine = record { literals = refl; paths = omega arith };
+    },
+    record {
+      goal = record { declared = declared; parts = tt };
+      fine = record { literals = refl; paths = omega arith };
+    },
   )
 
   pub condition_paths :
       (g : FormTree) (y n : GoalTree) → HasPlaces (name_count ob) g
-      → longest_path (ask_goal f (If g y n)) ≤ comparisons_left g + max (longest_path (ask_goal f y)) (longest_path (ask_goal f n))
+      → longest_path (ask_goal f (If g y n))
+      ≤ comparisons_left g + max (longest_path (ask_goal f y)) (longest_path (ask_goal f n))
   unfolding ask_goal
   condition_paths g y n places = (form_goes_on (name_count ob) g (ask_goal f y) (ask_goal f n) places).paths
 
@@ -114,5 +124,8 @@ module _ (f : Function) (ob : ObName) where
       let on = form_goes_on (name_count ob) g (ask_goal f y) (ask_goal f n) places in
       record {
         goal = record { declared = on_yes.goal.declared; parts = (places, on_yes.goal.parts, on_no.goal.parts) };
-        fine = record { literals = on.literals on_yes.fine.literals on_no.fine.literals; paths = omega (arith, on.paths, few) };
+        fine = record {
+          literals = on.literals on_yes.fine.literals on_no.fine.literals;
+          paths = omega (arith, on.paths, few);
+        };
       }

@@ -32,13 +32,15 @@ ask_goal_fails f why = refl
 
 -- a form of another kind is no question
 pub no_question :
-    (form other : Form) → form ≡ other → is_question (form_tree other) ≡ false → IsTrue (is_question (form_tree form)) → ⊥
+    (form other : Form) → form ≡ other → is_question (form_tree other) ≡ false
+    → IsTrue (is_question (form_tree form)) → ⊥
 no_question form other same denied asked =
     let e : true ≡ false = sym asked ∙ (ap (λ t. is_question (form_tree t)) same ∙ denied) in cc
 
 -- the first goal is a node, as its plan keeps the limits
 pub node_start :
-    (f : Function) (ob : ObName) (g : GoalTree) → IsGoalOf f ob g → ask_goal f g ≡ plan_of f ob → IsFine (name_count ob) (plan_of f ob)
+    (f : Function) (ob : ObName) (g : GoalTree) → IsGoalOf f ob g → ask_goal f g ≡ plan_of f ob
+    → IsFine (name_count ob) (plan_of f ob)
     → IsNode f ob g
 node_start f ob g is_goal same fine =
     record { goal = is_goal; fine = subst (IsFine (name_count ob)) (sym same) fine }
@@ -91,7 +93,8 @@ BeginsAs f ob t l on_yes on_no =
 
 -- a comparison that is a question begins with its literal, and its parts are nodes where it is one
 pub question_begins :
-    (f : Function) (ob : ObName) (t : FormTree) (l : Lit) (x y : Place) (on_yes on_no : GoalTree) → t ≡ Le x y → l ≡ literal x y
+    (f : Function) (ob : ObName) (t : FormTree) (l : Lit) (x y : Place) (on_yes on_no : GoalTree)
+    → t ≡ Le x y → l ≡ literal x y
     → BeginsAs f ob t l on_yes on_no
 question_begins f ob t l x y on_yes on_no same is_literal =
     subst (λ m. BeginsAs f ob t m on_yes on_no) (sym is_literal)

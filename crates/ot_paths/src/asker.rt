@@ -7,22 +7,21 @@ ghost use Rattle.ot_terms.specs.Forms.{form_tree};
 ghost use Rattle.ot_terms.specs.Goals.{goal_tree, If};
 ghost use Rattle.ot_terms.specs.Standing.{ask_goal};
 ghost use Rattle.ot_rewrite.specs.Fronts.{is_at_front, is_question};
-ghost use Rattle.goal_rules.specs.Steps.{front_tree};
+ghost use Rattle.ot_rewrite.specs.Steps.{front_tree};
 ghost use Rattle.ot_questions.specs.Nears.{IsNear};
 ghost use Rattle.ot_questions.specs.Obligation.{plan_of};
 ghost use Rattle.ot_paths.specs.Nodes as nodes;
 ghost use Rattle.ot_paths.specs.Nodes.{IsNode};
 ghost use Rattle.ot_paths.specs.Given.{IsGiven, IsGiven-prop, own_plan};
 
+use crate::laid_out;
 use ask_core::{Asker, NoMemory, Turn};
 use bumpalo::Bump;
 use diff_graph::Lit;
 use first_goals::start_goal;
 use fn_rules::{ObName, Rules, rules_are_valid};
-use goal_rules::Front;
-use laid_goals::laid_out;
 use ot_questions::plans_keep_limits;
-use ot_rewrite::front_of;
+use ot_rewrite::{Front, front_of};
 use ot_terms::{Form, Goal, Place, Why, first_goals_stand_for_obligations};
 
 // Whether nothing is left to be rewritten at the goal's front, as where its questions are laid out.

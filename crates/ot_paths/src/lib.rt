@@ -7,8 +7,17 @@
 #![tactic(auto)]
 
 mod asker;
+mod behind;
+mod cells;
+mod forms;
+mod kept;
 mod laws;
+mod laying;
 
 pub use ask_core::NoMemory;
 pub use asker::PathAsker;
+pub use behind::is_same_progress;
+pub use forms::{by_form, by_guard};
+pub use kept::Behind;
 pub use laws::conditions_are_nodes;
+pub use laying::{laid_out, trial};

@@ -1,5 +1,6 @@
 -- Some integers meet each list of answers of a question list.
-use Rattle.std.proofs.Common.{◌≡◌, true, false, List, [], ◌∷◌, ◌++◌, Option, Some, None, MatchOption, inl, inr, sym, subst}
+use Rattle.std.proofs.Common.{◌≡◌, true, false, List, [], ◌∷◌, ◌++◌, Option, Some, None, MatchOption, inl, inr, sym}
+use Rattle.std.proofs.Common.{subst}
 use Rattle.std.specs.List.{AllByRecursion}
 use Rattle.diff_graph.specs.declared.lit.Lit.{Lit}
 use Rattle.diff_graph.specs.Literals.{IsPossible}
@@ -9,7 +10,8 @@ use Rattle.ask_core.specs.Questions.{Questions, FailingEnd, QuestionList, asked_
 use Rattle.ot_prove.specs.Outcomes.{AreAllPossible}
 
 possible-append :
-    (xs ys : List (List Lit)) → AllByRecursion IsPossible xs → AllByRecursion IsPossible ys → AllByRecursion IsPossible (xs ++ ys)
+    (xs ys : List (List Lit)) → AllByRecursion IsPossible xs → AllByRecursion IsPossible ys
+    → AllByRecursion IsPossible (xs ++ ys)
 possible-append [] ys xs_all ys_all = ys_all
 possible-append (x ∷ xs) ys xs_all ys_all = (xs_all.0, possible-append xs ys xs_all.1 ys_all)
 
@@ -28,7 +30,8 @@ module _ {W : Type 0} where
       subst (λ (x : Questions W). AreAllPossible x) (sym is) ((possible, of_yes.0), of_yes.1)
 
   pub possible_list : (p : Plan W) (w : List Lit) (q : Questions W) → QuestionList p w q → AreAllPossible q
-  possible_list (Ask l on_yes on_no) w q (inl none) = subst (λ (x : Questions W). AreAllPossible x) (sym none.1) (tt, tt)
+  possible_list (Ask l on_yes on_no) w q (inl none) =
+      subst (λ (x : Questions W). AreAllPossible x) (sym none.1) (tt, tt)
   possible_list (Ask l on_yes on_no) w q (inr (possible, (y, of_yes, joins))) =
       possible_join w y q (λ (x : Questions W). QuestionList on_no (with_answer w l false) x) y.failing possible
       (λ n of_no. possible_list on_no (with_answer w l false) n of_no)

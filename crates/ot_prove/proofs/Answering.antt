@@ -12,7 +12,8 @@ use Rattle.ot_prove.proofs.Listing.{parts_of}
 module _ {W : Type 0} where
   -- trees for both parts of a question are one tree for it
   pub Answered-question :
-      (b : Branch W) (branches : List (Branch W)) (l : Lit) (on_yes on_no : Plan W) (tokens : List Tok) (asked : List (List Lit))
+      (b : Branch W) (branches : List (Branch W)) (l : Lit) (on_yes on_no : Plan W) (tokens : List Tok)
+      (asked : List (List Lit))
       → b.plan ≡ Ask l on_yes on_no → Answered tokens asked (parts_of l on_yes on_no b.answers branches)
       → Answered (token.Ask ∷ tokens) (b.answers ∷ asked) (b ∷ branches)
   Answered-question b branches l on_yes on_no tokens asked asks
@@ -22,7 +23,8 @@ module _ {W : Type 0} where
         later',
         subst (λ (p : Plan W). Fits (Question t u) p b.answers) (sym asks) (fits, fits'),
         ap (λ (x : List Tok). token.Ask ∷ x)
-            (spelled ∙ ap (λ (x : List Tok). tokens_of t ++ x) spelled' ∙ sym (append_assoc (tokens_of t) (tokens_of u) rest')),
+            (spelled ∙ ap (λ (x : List Tok). tokens_of t ++ x) spelled'
+            ∙ sym (append_assoc (tokens_of t) (tokens_of u) rest')),
         subst (λ (p : Plan W). b.answers ∷ asked ≡ asked_along (Question t u) p b.answers ++ later') (sym asks)
             (ap (λ (x : List (List Lit)). b.answers ∷ x)
             (questions

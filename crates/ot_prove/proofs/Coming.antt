@@ -1,5 +1,6 @@
 -- The tokens and questions of a search, step by step, and what its ends decide.
-use Rattle.std.proofs.Common.{◌≡◌, ℕ, ◌≤◌, List, [], ◌∷◌, ◌++◌, length, Option, Some, None, MatchOption, arith, refl, sym, ap, ◌∙◌, subst}
+use Rattle.std.proofs.Common.{◌≡◌, ℕ, ◌≤◌, List, [], ◌∷◌, ◌++◌, length, Option, Some, None, MatchOption, arith, refl}
+use Rattle.std.proofs.Common.{sym, ap, ◌∙◌, subst}
 use Rattle.std.proofs.lemmas.List.{append_assoc, append-nil, length-append}
 use Rattle.diff_graph.specs.declared.lit.Lit.{Lit}
 use Rattle.diff_graph.specs.Literals.{IsPossible}
@@ -12,7 +13,8 @@ use Rattle.ask_core.specs.Questions.{Questions, FailingEnd, QuestionList, no_que
 use Rattle.ot_prove.specs.declared.outcome.Outcome.TheVariants.{Yes, Spent}
 use Rattle.ot_prove.specs.Outcomes.{IsProofOfPlan, asked_along}
 use Rattle.ot_prove.specs.Searching.{joined_questions, Listed, Answered, whole, HasCome, AgreesWithLists}
-use Rattle.ot_prove.proofs.Listing.{ListedBehind, Listed-impossible, Listed-holds, Listed-fails, Listed-question, parts_of}
+use Rattle.ot_prove.proofs.Listing.{ListedBehind, Listed-impossible, Listed-holds, Listed-fails, Listed-question}
+use Rattle.ot_prove.proofs.Listing.{parts_of}
 use Rattle.ot_prove.proofs.Answering.{Answered-question, Answered-holds, Answered-cycle}
 
 module _ {W : Type 0} where
@@ -37,14 +39,15 @@ module _ {W : Type 0} where
   -- tokens and questions that take the open branches to others
   HasCome-step :
       (root : Plan W) (tokens more : List Tok) (asked new : List (List Lit)) (before after : List (Branch W))
-      → ((rest : List Tok) (later : List (List Lit)) → Answered rest later after → Answered (more ++ rest) (new ++ later) before)
+      → ((rest : List Tok) (later : List (List Lit)) → Answered rest later after
+      → Answered (more ++ rest) (new ++ later) before)
       → ((q : Questions W) → Listed before q → ListedBehind new after q)
       → HasCome root tokens asked before → HasCome root (tokens ++ more) (asked ++ new) after
   HasCome-step root tokens more asked new before after trees lists come = record {
     trees = λ rest later answered.
-        subst (λ (x : List Tok). Answered x ((asked ++ new) ++ later) (whole root)) (sym (append_assoc tokens more rest))
-        (subst (λ (x : List (List Lit)). Answered (tokens ++ (more ++ rest)) x (whole root)) (sym (append_assoc asked new later))
-        (come.trees (more ++ rest) (new ++ later) (trees rest later answered)));
+        subst (λ (x : List Tok). Answered x ((asked ++ new) ++ later) (whole root)) (sym (append_assoc tokens more
+        rest)) (subst (λ (x : List (List Lit)). Answered (tokens ++ (more ++ rest)) x (whole root))
+        (sym (append_assoc asked new later)) (come.trees (more ++ rest) (new ++ later) (trees rest later answered)));
     lists = λ q list.
         let found = come.lists q list in
         let behind = lists found.0 found.1 in
@@ -85,7 +88,8 @@ module _ {W : Type 0} where
 
     -- a question that the budget does not allow
     pub AgreesWithLists-spent :
-        (l : Lit) (on_yes on_no : Plan W) (budget : ℕ) → b.plan ≡ Ask l on_yes on_no → IsPossible b.answers → length asked ≡ budget
+        (l : Lit) (on_yes on_no : Plan W) (budget : ℕ) → b.plan ≡ Ask l on_yes on_no
+        → IsPossible b.answers → length asked ≡ budget
         → AgreesWithLists root budget Spent
     AgreesWithLists-spent l on_yes on_no budget asks possible count q list =
         let found = come.lists q list in

@@ -16,13 +16,17 @@ strict_list = record { asked = [] ∷ (at_most ∷ []) ∷ []; failing = None }
 
 -- the answers in front of the questions of its tree
 asked_along-strict :
-    asked_along (Question (Question (Impossible (0 ∷ 1 ∷ [])) End) End) (two_name_plan true) [] ≡ [] ∷ (at_most ∷ []) ∷ []
+    asked_along (Question (Question (Impossible (0 ∷ 1 ∷ [])) End) End) (two_name_plan true) []
+    ≡ [] ∷ (at_most ∷ []) ∷ []
 asked_along-strict = refl
 
 -- two questions are enough
 Decides-strict :
     Decides (two_name_plan true) 2 strict_list
-    (Yes (record { front = []; tokens = token.Ask ∷ token.Ask ∷ token.Cycle (0 ∷ 1 ∷ []) ∷ token.Holds ∷ token.Holds ∷ [] }) 2)
+    (Yes (record {
+      front = [];
+      tokens = token.Ask ∷ token.Ask ∷ token.Cycle (0 ∷ 1 ∷ []) ∷ token.Holds ∷ token.Holds ∷ [];
+    }) 2)
 Decides-strict = (
   lit≤ tt,
   refl,
@@ -44,7 +48,8 @@ Decides-not_spent : Decides (two_name_plan true) 2 strict_list Spent → ⊥
 Decides-not_spent spent = omega arith
 
 -- a tree with a question less is another one
-Decides-shorter : Decides (two_name_plan true) 2 strict_list (Yes (record { front = []; tokens = token.Holds ∷ [] }) 0) → ⊥
+Decides-shorter : Decides (two_name_plan true) 2 strict_list (Yes (record { front = []; tokens = token.Holds ∷ [] }) 0)
+    → ⊥
 Decides-shorter wrong = let e : ◌≡◌ {A = ℕ} 0 2 = wrong.2 in omega arith
 
 -- the lax plan fails after yes twice

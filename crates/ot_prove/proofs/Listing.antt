@@ -1,10 +1,12 @@
 -- The question lists of open branches, step by step.
-use Rattle.std.proofs.Common.{◌≡◌, true, false, List, [], ◌∷◌, ◌++◌, Option, Some, None, MatchOption, inl, inr, refl, append_assoc, ap, ◌∙◌, subst, sym}
+use Rattle.std.proofs.Common.{◌≡◌, true, false, List, [], ◌∷◌, ◌++◌, Option, Some, None, MatchOption, inl, inr, refl}
+use Rattle.std.proofs.Common.{append_assoc, ap, ◌∙◌, subst, sym}
 use Rattle.diff_graph.specs.declared.lit.Lit.{Lit}
 use Rattle.diff_graph.specs.Literals.{IsPossible}
 use Rattle.ask_core.specs.Plans.{Plan, Ask, Holds, Fails}
 use Rattle.ask_core.specs.Trees.{Branch, with_answer}
-use Rattle.ask_core.specs.Questions.{Questions, FailingEnd, QuestionList, no_questions, failing_at, asked_with_yes, asked_with_both}
+use Rattle.ask_core.specs.Questions.{Questions, FailingEnd, QuestionList, no_questions, failing_at, asked_with_yes}
+use Rattle.ask_core.specs.Questions.{asked_with_both}
 use Rattle.ot_prove.specs.Searching.{joined_questions, Listed}
 
 module _ {W : Type 0} where
@@ -15,7 +17,8 @@ module _ {W : Type 0} where
   -- the list is that of the branches behind the questions so far
   abbrev pub ListedBehind : List (List Lit) → List (Branch W) → Questions W → Type 0
   ListedBehind asked branches q =
-      (later : Questions W) × Listed branches later × (q ≡ record { asked = asked ++ later.asked; failing = later.failing })
+      (later : Questions W) × Listed branches later
+      × (q ≡ record { asked = asked ++ later.asked; failing = later.failing })
 
   -- where no integers meet the answers there are no questions
   no_questions-impossible :
@@ -33,8 +36,8 @@ module _ {W : Type 0} where
       → Listed (b ∷ branches) q → Listed branches q
   Listed-none b branches q none (y, list, after) =
       let found =
-      subst (λ (x : Questions W). MatchOption x.failing ((n : Questions W) × Listed branches n × (q ≡ joined_questions x n)) (λ _. q ≡ x))
-      (none y list) after in
+      subst (λ (x : Questions W). MatchOption x.failing
+      ((n : Questions W) × Listed branches n × (q ≡ joined_questions x n)) (λ _. q ≡ x)) (none y list) after in
       subst (λ (x : Questions W). Listed branches x) (sym found.2) found.1
 
   pub Listed-impossible :
@@ -57,11 +60,12 @@ module _ {W : Type 0} where
       → q ≡ failing_at w why
   fails_there w why branches q y possible (inl none) after = absurd (none.0 possible)
   fails_there w why branches q y possible (inr some) after =
-      subst (λ (x : Questions W). MatchOption x.failing ((n : Questions W) × Listed branches n × (q ≡ joined_questions x n)) (λ _. q ≡ x))
-      some.1 after
+      subst (λ (x : Questions W). MatchOption x.failing
+      ((n : Questions W) × Listed branches n × (q ≡ joined_questions x n)) (λ _. q ≡ x)) some.1 after
 
   pub Listed-fails :
-      (b : Branch W) (branches : List (Branch W)) (q : Questions W) (why : W) → b.plan ≡ Fails why → IsPossible b.answers
+      (b : Branch W) (branches : List (Branch W)) (q : Questions W) (why : W)
+      → b.plan ≡ Fails why → IsPossible b.answers
       → Listed (b ∷ branches) q → q ≡ failing_at b.answers why
   Listed-fails b branches q why fails possible (y, list, after) =
       fails_there b.answers why branches q y possible
@@ -80,25 +84,27 @@ module _ {W : Type 0} where
       → n.failing ≡ failing → QuestionList b.plan b.answers n
       → MatchOption failing ((m : Questions W) × Listed branches m × (q ≡ joined_questions (asked_with_both w y n) m))
       (λ _. q ≡ asked_with_both w y n)
-      → (m : Questions W) × Listed (b ∷ branches) m × (q ≡ record { asked = w ∷ (y.asked ++ m.asked); failing = m.failing })
+      → (m : Questions W) × Listed (b ∷ branches) m
+      × (q ≡ record { asked = w ∷ (y.asked ++ m.asked); failing = m.failing })
   listed_no b branches w y n q None ends list (m, listed, is) = (
     joined_questions n m,
     (
       n,
       list,
       subst (λ (x : Option (FailingEnd W)). MatchOption x
-          ((k : Questions W) × Listed branches k × (joined_questions n m ≡ joined_questions n k)) (λ _. joined_questions n m ≡ n))
-          (sym ends) (m, listed, refl),
+          ((k : Questions W) × Listed branches k × (joined_questions n m ≡ joined_questions n k))
+          (λ _. joined_questions n m ≡ n)) (sym ends) (m, listed, refl),
     ),
-    is ∙ ap (λ (x : List (List Lit)). record { asked = w ∷ x; failing = m.failing }) (append_assoc y.asked n.asked m.asked),
+    is ∙ ap (λ (x : List (List Lit)). record { asked = w ∷ x; failing = m.failing })
+        (append_assoc y.asked n.asked m.asked),
   )
   listed_no b branches w y n q (Some end) ends list is = (
     n,
     (
       n,
       list,
-      subst (λ (x : Option (FailingEnd W)). MatchOption x ((k : Questions W) × Listed branches k × (n ≡ joined_questions n k)) (λ _. n ≡ n))
-          (sym ends) refl,
+      subst (λ (x : Option (FailingEnd W)). MatchOption x
+          ((k : Questions W) × Listed branches k × (n ≡ joined_questions n k)) (λ _. n ≡ n)) (sym ends) refl,
     ),
     is,
   )
@@ -116,7 +122,8 @@ module _ {W : Type 0} where
   listed_yes l on_yes on_no w branches y z q None ends list (n, of_no, is) after =
       let found =
       listed_no (record { plan = on_no; answers = with_answer w l false }) branches w y n q n.failing refl of_no
-      (subst (λ (x : Questions W). MatchOption x.failing ((m : Questions W) × Listed branches m × (q ≡ joined_questions x m)) (λ _. q ≡ x)) is after) in (
+      (subst (λ (x : Questions W). MatchOption x.failing
+      ((m : Questions W) × Listed branches m × (q ≡ joined_questions x m)) (λ _. q ≡ x)) is after) in (
         joined_questions y found.0,
         (
           y,
@@ -133,7 +140,8 @@ module _ {W : Type 0} where
   listed_yes l on_yes on_no w branches y z q (Some end) ends list is after =
       let same : z.failing ≡ Some end = ap (λ (x : Questions W). x.failing) is ∙ ends in
       let q_is =
-      subst (λ (x : Option (FailingEnd W)). MatchOption x ((n : Questions W) × Listed branches n × (q ≡ joined_questions z n)) (λ _. q ≡ z))
+      subst (λ (x : Option (FailingEnd W)).
+      MatchOption x ((n : Questions W) × Listed branches n × (q ≡ joined_questions z n)) (λ _. q ≡ z))
       same after in (
         y,
         (

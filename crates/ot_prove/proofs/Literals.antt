@@ -47,6 +47,7 @@ pub fine_question :
     {W : Type 0} (count : ℕ) (l : Lit) (on_yes on_no : Plan W) → IsTrue (has_fine_literals count (Ask l on_yes on_no))
     → IsFineLiteral count l × IsTrue (has_fine_literals count on_yes) × IsTrue (has_fine_literals count on_no)
 fine_question count l on_yes on_no fine =
-    let parts = and_parts (is_fine_literal count l && has_fine_literals count on_yes) (has_fine_literals count on_no) fine in
+    let parts = and_parts (is_fine_literal count l && has_fine_literals count on_yes)
+    (has_fine_literals count on_no) fine in
     let first = and_parts (is_fine_literal count l) (has_fine_literals count on_yes) parts.0 in
     (fine_literal count l first.0, first.1, parts.1)

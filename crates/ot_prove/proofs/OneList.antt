@@ -1,6 +1,6 @@
 -- A plan that keeps the limits has exactly one question list.
-use Rattle.std.proofs.Common.{◌≡◌, ℕ, zero, suc, ◌<◌, ℤ, true, false, List, [], ◌∷◌, ◌++◌, length, get_or, Option, Some, None, MatchOption, IsTrue, arith, refl}
-use Rattle.std.proofs.Common.{sym, ap, ◌∙◌, subst, inl, inr}
+use Rattle.std.proofs.Common.{◌≡◌, ℕ, zero, suc, ◌<◌, ℤ, true, false, List, [], ◌∷◌, ◌++◌, length, get_or, Option, Some}
+use Rattle.std.proofs.Common.{None, MatchOption, IsTrue, arith, refl, sym, ap, ◌∙◌, subst, inl, inr}
 use Rattle.std.proofs.lemmas.Bool.{cases_Bool, cases_eq}
 use Rattle.std.proofs.lemmas.List.{get_or_push, get_or_append_left, length_push}
 use Rattle.diff_graph.specs.declared.lit.Lit.{Lit}
@@ -12,9 +12,11 @@ use Rattle.diff_tables.specs.Steps.{added, leaves_room, AreNewRows, IsNewRow, ow
 use Rattle.ask_core.specs.Plans.{Plan, Ask, Holds, Fails}
 use Rattle.ask_core.specs.Askers.{has_fine_literals}
 use Rattle.ask_core.specs.Trees.{with_answer}
-use Rattle.ask_core.specs.Questions.{Questions, FailingEnd, QuestionList, JoinsParts, no_questions, failing_at, asked_with_yes, asked_with_both}
+use Rattle.ask_core.specs.Questions.{Questions, FailingEnd, QuestionList, JoinsParts, no_questions, failing_at}
+use Rattle.ask_core.specs.Questions.{asked_with_yes, asked_with_both}
 use Rattle.ot_prove.proofs.Literals.{fine_question}
-use Rattle.search_places.proofs.Possible.{IsPossible-by_table, literals_of-numbered_from, numbered_from-next, TellsPossible}
+use Rattle.search_places.proofs.Possible.{IsPossible-by_table, literals_of-numbered_from, numbered_from-next}
+use Rattle.search_places.proofs.Possible.{TellsPossible}
 
 -- ---- new tables
 -- the values of a function at the first numbers
@@ -50,8 +52,8 @@ unfolding fresh_rows
 AreNewRows-fresh n = (
   length-tabulated (λ y. tabulated (own_only y) n) n,
   λ y below.
-      subst (λ (row : List (Option Hop)). IsNewRow n y row) (sym (get_or-tabulated (λ z. tabulated (own_only z) n) n y [] below))
-      (length-tabulated (own_only y) n, λ x inside. get_or-tabulated (own_only y) n x None inside),
+      subst (λ (row : List (Option Hop)). IsNewRow n y row) (sym (get_or-tabulated (λ z. tabulated (own_only z) n) n y
+      [] below)) (length-tabulated (own_only y) n, λ x inside. get_or-tabulated (own_only y) n x None inside),
 )
 
 -- ---- one more answer
@@ -96,7 +98,8 @@ module _ {W : Type 0} where
 
   joined_by :
       (w : List Lit) (y n : Questions W) (P : Questions W → Type 0) (failing : Option (FailingEnd W)) → P n
-      → (q : Questions W) × MatchOption failing ((m : Questions W) × P m × (q ≡ asked_with_both w y m)) (λ _. q ≡ asked_with_yes w y)
+      → (q : Questions W) × MatchOption failing ((m : Questions W) × P m × (q ≡ asked_with_both w y m))
+      (λ _. q ≡ asked_with_yes w y)
   joined_by w y n P None of_no = (asked_with_both w y n, (n, of_no, refl))
   joined_by w y n P (Some end) of_no = (asked_with_yes w y, refl)
 
@@ -104,12 +107,14 @@ module _ {W : Type 0} where
     list_of_side :
         (n : ℕ) (t : ℕ → ℕ → Option Hop) (p : Plan W) (w : List Lit) (l : Lit)
         → StandsFor n t (numbered_from 0 w) → IsNamed n l
-        → ((u : ℕ → ℕ → Option Hop) → StandsFor n u (numbered_from 0 (w ++ l ∷ [])) → (q : Questions W) × QuestionList p (w ++ l ∷ []) q)
+        → ((u : ℕ → ℕ → Option Hop) → StandsFor n u (numbered_from 0 (w ++ l ∷ []))
+        → (q : Questions W) × QuestionList p (w ++ l ∷ []) q)
         → (q : Questions W) × QuestionList p (w ++ l ∷ []) q
     list_of_side n t p w l stands named later =
         elim (cases_Bool (leaves_room (t l.y l.x) l.k)) [
           | inl room ↦ later (added t (length w) l) (stands-with adds tells n t w l stands named room)
-          | inr no_room ↦ (no_questions, no_list p (w ++ l ∷ []) (impossible-with adds tells n t w l stands named no_room))
+          | inr no_room ↦
+              (no_questions, no_list p (w ++ l ∷ []) (impossible-with adds tells n t w l stands named no_room))
         ]
 
     -- a plan of fine literals has a question list, after answers that a table stands for
@@ -126,7 +131,8 @@ module _ {W : Type 0} where
         list_of_side n t on_no w (negated l) stands (named.1, named.0)
         (λ u after. some_list n u on_no (with_answer w l false) parts.2 after) in
         let both =
-        joined_by w of_yes.0 of_no.0 (λ (q : Questions W). QuestionList on_no (with_answer w l false) q) of_yes.0.failing of_no.1 in
+        joined_by w of_yes.0 of_no.0 (λ (q : Questions W). QuestionList on_no (with_answer w l false) q)
+        of_yes.0.failing of_no.1 in
         (both.0, inr (IsPossible-by_table w stands, (of_yes.0, of_yes.1, both.1)))
     some_list n t Holds w fine stands = (no_questions, refl)
     some_list n t (Fails why) w fine stands = (failing_at w why, inr (IsPossible-by_table w stands, refl))

@@ -1,5 +1,6 @@
 -- Answers that no integers meet have a cycle of at most as many picks as names.
-use Rattle.std.proofs.Common.{◌≡◌, ℕ, zero, suc, ◌≤◌, false, List, [], ◌∷◌, ◌++◌, length, Option, Some, None, slice_get, Ok, refl, sym, subst, inl, inr}
+use Rattle.std.proofs.Common.{◌≡◌, ℕ, zero, suc, ◌≤◌, false, List, [], ◌∷◌, ◌++◌, length, Option, Some, None, slice_get}
+use Rattle.std.proofs.Common.{Ok, refl, sym, subst, inl, inr}
 use Rattle.std.proofs.lemmas.Bool.{cases_Bool}
 use Rattle.std.proofs.lemmas.List.{append_assoc, append-nil}
 use Rattle.diff_graph.specs.declared.lit.Lit.{Lit}
@@ -9,7 +10,8 @@ use Rattle.diff_graph.specs.Cycles.{picked, pick_verdict}
 use Rattle.diff_graph.specs.Limits.{IsNamed, AreNamed}
 use Rattle.diff_tables.specs.Tables.{Numbered, numbered_from, AreAmong, StandsFor, IsCycleOf}
 use Rattle.diff_tables.specs.Steps.{added, leaves_room, numbers_along}
-use Rattle.search_places.proofs.Possible.{IsPossible-by_table, numbered_from-next, picked-from_among, got_at, TellsPossible}
+use Rattle.search_places.proofs.Possible.{IsPossible-by_table, numbered_from-next, picked-from_among, got_at}
+use Rattle.search_places.proofs.Possible.{TellsPossible}
 use Rattle.ot_prove.proofs.OneList.{AddedStands, stands-with}
 
 abbrev pub TellsCycle : Type 0
@@ -30,7 +32,8 @@ cycle_of_all :
     → pick_verdict (done ++ (l ∷ rest)) picks ≡ Ok tt
 cycle_of_all n done rest l picks cycle =
     let named =
-    subst (λ (ps : List Numbered). AreAmong ps picks cycle.literals) (numbered_from-next done l (length done) refl) cycle.named in
+    subst (λ (ps : List Numbered). AreAmong ps picks cycle.literals)
+    (numbered_from-next done l (length done) refl) cycle.named in
     let got : picked ((done ++ l ∷ []) ++ rest) picks ≡ Some cycle.literals =
     picked-from_among ((done ++ l ∷ []) ++ rest) (numbered_from 0 (done ++ l ∷ []))
     (λ number m among. slice_get-longer (done ++ l ∷ []) rest number m (got_at (done ++ l ∷ []) number m among)) picks
@@ -45,15 +48,17 @@ module _ (adds : AddedStands) (tells : TellsPossible) (cycles : TellsCycle) wher
       → ¬ IsPossible (done ++ rest)
       → (picks : List ℕ) × (pick_verdict (done ++ rest) picks ≡ Ok tt) × (length picks ≤ n)
   short_cycle n [] done t stands named never =
-      absurd (never (subst (λ (ls : List Lit). IsPossible ls) (sym (append-nil done)) (IsPossible-by_table done stands)))
+      absurd (never (subst (λ (ls : List Lit). IsPossible ls) (sym (append-nil done))
+      (IsPossible-by_table done stands)))
   short_cycle n (l ∷ rest) done t stands named never =
       elim (cases_Bool (leaves_room (t l.y l.x) l.k)) [
         | inl room ↦
             (let onward : (done ++ l ∷ []) ++ rest ≡ done ++ (l ∷ rest) = append_assoc done (l ∷ []) rest in
             let found =
-            short_cycle n rest (done ++ l ∷ []) (added t (length done) l) (stands-with adds tells n t done l stands named.0 room)
-            named.1 (subst (λ (ls : List Lit). ¬ IsPossible ls) (sym onward) never) in
-            subst (λ (ls : List Lit). (picks : List ℕ) × (pick_verdict ls picks ≡ Ok tt) × (length picks ≤ n)) onward found)
+            short_cycle n rest (done ++ l ∷ []) (added t (length done) l) (stands-with adds tells n t done l stands
+            named.0 room) named.1 (subst (λ (ls : List Lit). ¬ IsPossible ls) (sym onward) never) in
+            subst (λ (ls : List Lit). (picks : List ℕ) × (pick_verdict ls picks ≡ Ok tt)
+            × (length picks ≤ n)) onward found)
         | inr no_room ↦
             (let cycle = cycles n t (numbered_from 0 done) (length done) l stands named.0 no_room in
             (length done ∷ numbers_along (λ x. t x l.x) n l.y l.x, cycle_of_all n done rest l _ cycle, cycle.few))

@@ -1,7 +1,7 @@
 -- What a question list tells of its plan: by induction on the plan, since a valuation that meets the answers at a
 -- question goes on to one of its parts, and the failing end of the list is that of a part.
-use Rattle.std.proofs.Common.{◌≡◌, ◌↔◌, ◌⊎◌, ℕ, ℤ, ◌-ℤ◌, Bool, true, false, List, [], ◌∷◌, Option, Some, None, MatchOption, inl, inr, arith, refl, sym, ap, ◌∙◌}
-use Rattle.std.proofs.Common.{subst}
+use Rattle.std.proofs.Common.{◌≡◌, ◌↔◌, ◌⊎◌, ℕ, ℤ, ◌-ℤ◌, Bool, true, false, List, [], ◌∷◌, Option, Some, None}
+use Rattle.std.proofs.Common.{MatchOption, inl, inr, arith, refl, sym, ap, ◌∙◌, subst}
 use Rattle.std.proofs.lemmas.Bool.{cases_Bool}
 use Rattle.std.proofs.lemmas.Int.{ints}
 use Rattle.diff_graph.specs.declared.lit.Lit.{Lit}
@@ -40,7 +40,8 @@ module _ {W : Type 0} where
 
   -- a failing end is that of the part for yes or that of the part for no
   failing_part :
-      (w : List Lit) (y q : Questions W) (IsNoPart : Questions W → Type 0) (e : FailingEnd W) (failing : Option (FailingEnd W))
+      (w : List Lit) (y q : Questions W) (IsNoPart : Questions W → Type 0) (e : FailingEnd W)
+      (failing : Option (FailingEnd W))
       → MatchOption failing ((n : Questions W) × IsNoPart n × (q ≡ asked_with_both w y n)) (λ _. q ≡ asked_with_yes w y)
       → q.failing ≡ Some e → (y.failing ≡ Some e) ⊎ ((n : Questions W) × IsNoPart n × (n.failing ≡ Some e))
   failing_part w y q IsNoPart e None (n, is_no, is) ends =
@@ -50,7 +51,8 @@ module _ {W : Type 0} where
   module _ (answers : AnswersSo) (v : ℕ → ℤ) where
     -- where the list has no failing end, the plan holds at each valuation that meets the answers
     holds_by_list :
-        (p : Plan W) (w : List Lit) (q : Questions W) → QuestionList p w q → q.failing ≡ None → AreMet v w → value p v ≡ true
+        (p : Plan W) (w : List Lit) (q : Questions W) → QuestionList p w q → q.failing ≡ None
+        → AreMet v w → value p v ≡ true
     holds_by_list (Ask l on_yes on_no) w q (inl never) none met = absurd (never.0 (IsPossible-met v w met))
     holds_by_list (Ask l on_yes on_no) w q (inr (possible, (y, of_yes, joins))) none met =
         let parts = no_failing_part w y q (QuestionList on_no (with_answer w l false)) y.failing refl joins none in
@@ -60,12 +62,14 @@ module _ {W : Type 0} where
               (holds_by_list on_yes (with_answer w l true) y of_yes parts.0 ((answers v w l true).1 (met, passed)))
           | inr failed ↦
               rw failed
-              (holds_by_list on_no (with_answer w l false) parts.1.0 parts.1.1 parts.1.2 ((answers v w l false).1 (met, failed)))
+              (holds_by_list on_no (with_answer w l false) parts.1.0 parts.1.1 parts.1.2
+              ((answers v w l false).1 (met, failed)))
         ]
     holds_by_list Holds w q is none met = refl
     holds_by_list (Fails why) w q (inl never) none met = absurd (never.0 (IsPossible-met v w met))
     holds_by_list (Fails why) w q (inr some) none met =
-        let ends : q.failing ≡ Some (record { answers = w; why = why }) = ap (λ (x : Questions W). x.failing) some.1 in absurd (cc)
+        let ends : q.failing ≡ Some (record { answers = w; why = why }) =
+        ap (λ (x : Questions W). x.failing) some.1 in absurd (cc)
 
     -- a valuation that meets the answers of the failing end meets those before, and leads to its cause
     fails_by_list :
@@ -91,13 +95,16 @@ module _ {W : Type 0} where
     fails_by_list (Fails why) w q e (inr some) ends met =
         let here : q.failing ≡ Some (record { answers = w; why = why }) = ap (λ (x : Questions W). x.failing) some.1 in
         let same : record { answers = w; why = why } ≡ e = cc in
-        subst (λ (x : FailingEnd W). AreMet v x.answers → AreMet v w × (Some why ≡ Some x.why)) same (λ met_here. (met_here, refl)) met
+        subst (λ (x : FailingEnd W). AreMet v x.answers → AreMet v w × (Some why ≡ Some x.why)) same
+        (λ met_here. (met_here, refl)) met
 
   pub told_by_list :
-      AnswersSo → (p : Plan W) (q : Questions W) → QuestionList p [] q → (failing : Option (FailingEnd W)) → q.failing ≡ failing
+      AnswersSo → (p : Plan W) (q : Questions W) → QuestionList p [] q
+      → (failing : Option (FailingEnd W)) → q.failing ≡ failing
       → MatchOption failing (HoldsEverywhere p) (λ e. FailsAt p e)
   told_by_list answers p q list None ends = λ v. holds_by_list answers v p [] q list ends tt
   told_by_list answers p q list (Some e) ends = (
-    (subst (λ (x : Option (FailingEnd W)). MatchOption x (Unit {0}) (λ e. IsPossible e.answers)) ends (possible_list p [] q list).1),
+    (subst (λ (x : Option (FailingEnd W)). MatchOption x (Unit {0}) (λ e. IsPossible e.answers)) ends
+        (possible_list p [] q list).1),
     λ v met. (fails_by_list answers v p [] q e list ends met).1,
   )

@@ -1,6 +1,7 @@
 -- The answers that lead to a place.
-use Rattle.std.proofs.Common.{◌≡◌, ◌≢◌, ◌⊎◌, ℕ, zero, suc, ◌+◌, ◌<◌, ◌≤◌, Bool, if◌then◌else◌, drop-cons, add-one, true, false, nat_eq, List, [], ◌∷◌, ◌++◌}
-use Rattle.std.proofs.Common.{length, take, drop, get_or, IsTrue, arith, refl, sym, ap, ◌∙◌, subst, inl, inr}
+use Rattle.std.proofs.Common.{◌≡◌, ◌≢◌, ◌⊎◌, ℕ, zero, suc, ◌+◌, ◌<◌, ◌≤◌, Bool, if◌then◌else◌, drop-cons, add-one, true}
+use Rattle.std.proofs.Common.{false, nat_eq, List, [], ◌∷◌, ◌++◌, length, take, drop, get_or, IsTrue, arith, refl, sym}
+use Rattle.std.proofs.Common.{ap, ◌∙◌, subst, inl, inr}
 use Rattle.std.proofs.lemmas.Bool.Decides.{nat_tests}
 use Rattle.std.proofs.lemmas.List.{map-append, take_more}
 use Rattle.diff_graph.specs.declared.lit.Lit.{Lit}
@@ -56,7 +57,8 @@ nat_eq-same m n same = grind (arith, nat_tests)
 nat_eq-apart : (m n : ℕ) → m ≢ n → nat_eq m n ≡ false
 nat_eq-apart m n apart = grind (arith, nat_tests)
 
-module _ {N W : Type 0} (plan : N → Plan W) (n on_yes on_no : N) (l : Lit) (asks : plan n ≡ Ask l (plan on_yes) (plan on_no)) where
+module _ {N W : Type 0} (plan : N → Plan W) (n on_yes on_no : N) (l : Lit)
+    (asks : plan n ≡ Ask l (plan on_yes) (plan on_no)) where
   -- the answer that a literal on the way stands for, and where it leads
   abbrev pub GoesOn : Lit → List Lit → Plan W → Bool → Type 0
   GoesOn m w end said = (answered_of l said ≡ m) × LeadsTo (plan (if said then on_yes else on_no)) w end
@@ -89,7 +91,8 @@ module _ {N W : Type 0} (plan : N → Plan W) (n on_yes on_no : N) (l : Lit) (as
       AreAnswersTo-push p answers (record { lit = l; yes = false }) (Ask l (plan on_yes) (plan on_no))
       (subst (λ (x : Plan W). AreAnswersTo p answers x) asks way) refl
 
-  module _ (count : ℕ) (w : List Lit) (at : ℕ) (d : Lit) (said : Bool) (inside : at < length w) (fine : IsFine count (plan n))
+  module _ (count : ℕ) (w : List Lit) (at : ℕ) (d : Lit) (said : Bool) (inside : at < length w)
+      (fine : IsFine count (plan n))
       (test : said ≡ nat_eq (get_or w at d).x l.x) where
     goes_on_at : (end : Plan W) → LeadsTo (plan n) (drop at w) end → GoesOn (get_or w at d) (drop (at + 1) w) end said
     goes_on_at end leads =
@@ -99,7 +102,8 @@ module _ {N W : Type 0} (plan : N → Plan W) (n on_yes on_no : N) (l : Lit) (as
         (subst (λ (x : List Lit). LeadsTo (plan n) x end) shown leads)
 
     pub left_on :
-        (end : Plan W) → LeadsTo (plan n) (drop at w) end → LeadsTo (plan (if said then on_yes else on_no)) (drop (at + 1) w) end
+        (end : Plan W) → LeadsTo (plan n) (drop at w) end
+        → LeadsTo (plan (if said then on_yes else on_no)) (drop (at + 1) w) end
     left_on end leads = (goes_on_at end leads).1
 
     pub said_on :
@@ -112,7 +116,8 @@ module _ {N W : Type 0} (plan : N → Plan W) (n on_yes on_no : N) (l : Lit) (as
         ∙ sym (take_more w at d inside)
 
 -- what holds of both sides holds of the one that is taken
-pub side_has : {N : Type 0} (P : N → Type 0) (said : Bool) (on_yes on_no : N) → P on_yes → P on_no → P (if said then on_yes else on_no)
+pub side_has : {N : Type 0} (P : N → Type 0) (said : Bool) (on_yes on_no : N) → P on_yes → P on_no
+    → P (if said then on_yes else on_no)
 side_has P true on_yes on_no yes_has no_has = yes_has
 side_has P false on_yes on_no yes_has no_has = no_has
 
@@ -131,7 +136,8 @@ ended_way p (m ∷ w) (suc at) end leads ended =
 
 -- at the end of the way
 pub whole_way :
-    {W : Type 0} (p : Plan W) (w : List Lit) (at : ℕ) (end : Plan W) → length w ≤ at → LeadsTo p (drop at w) end → p ≡ end
+    {W : Type 0} (p : Plan W) (w : List Lit) (at : ℕ) (end : Plan W) → length w ≤ at
+    → LeadsTo p (drop at w) end → p ≡ end
 whole_way p w at end past leads = subst (λ (x : List Lit). LeadsTo p x end) (drop_past w at past) leads
   where
     drop_past : (w : List Lit) (at : ℕ) → length w ≤ at → drop at w ≡ []

@@ -2,7 +2,7 @@
 ghost use Rattle.std.specs.Prelude.{◌≡◌, ℕ, ◌<◌, ◌≤◌, List, ◌∷◌, Option, None, drop, length, reverse, IfOk};
 ghost use Rattle.diff_graph.specs.declared.lit.Lit.{Lit};
 ghost use Rattle.ask_core.specs.Paths.{after_question};
-ghost use Rattle.search_places.specs.declared.split.TheConstants.{MAX_NAMES};
+ghost use Rattle.ask_core.specs.declared.asker.TheConstants.{MAX_NAMES};
 ghost use Rattle.ot_prove.specs.Searching.{HasPassed, IsSearching};
 
 use crate::NoMemory;

@@ -1,7 +1,7 @@
 //! The calls that search a plan.
 ghost use Rattle.std.specs.Prelude.{◌≡◌, ℕ, ◌≤◌, [], IfOk, OnOk};
 ghost use Rattle.ask_core.specs.Askers.{SamePlans};
-ghost use Rattle.search_places.specs.declared.split.TheConstants.{MAX_NAMES};
+ghost use Rattle.ask_core.specs.declared.asker.TheConstants.{MAX_NAMES};
 ghost use Rattle.ot_prove.specs.Outcomes.{IsDecided, StandsBehind};
 ghost use Rattle.ot_prove.specs.Searching.{AgreesWithLists, HasEnded, IsAsBefore, IsSearchUnderWay};
 

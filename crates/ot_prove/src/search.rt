@@ -4,7 +4,7 @@ ghost use Rattle.std.specs.Prelude.{IfOk, OnOk};
 ghost use Rattle.ask_core.specs.Askers.{Begins, IsFine};
 ghost use Rattle.ask_core.specs.Paths.{branches_at, first_plan};
 ghost use Rattle.ask_core.specs.declared.tree.Tok.TheVariants.{Holds};
-ghost use Rattle.search_places.specs.declared.split.TheConstants.{MAX_NAMES};
+ghost use Rattle.ask_core.specs.declared.asker.TheConstants.{MAX_NAMES};
 ghost use Rattle.ot_prove.specs.Searching.{IsAsBefore, IsSearchUnderWay, IsUnderWayOr};
 ghost use Rattle.ot_prove.specs.Searching.{WeighsLess, weight_of};
 

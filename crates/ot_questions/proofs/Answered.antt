@@ -1,6 +1,6 @@
 -- A plan begins by asking whether something is to be shown at all.
-use Rattle.std.proofs.Common.{◌≡◌, ℕ, ℤ, pos, negsuc, ◌+ℤ◌, Bool, true, false, if◌then◌else◌, int_le, Option, None, List, [], ◌∷◌, refl, ap, sym, ◌∙◌, subst}
-use Rattle.std.proofs.Common.{inl, inr, ◌⊎◌, Decides, arith}
+use Rattle.std.proofs.Common.{◌≡◌, ℕ, ℤ, pos, negsuc, ◌+ℤ◌, Bool, true, false, if◌then◌else◌, int_le, Option, None}
+use Rattle.std.proofs.Common.{List, [], ◌∷◌, refl, ap, sym, ◌∙◌, subst, inl, inr, ◌⊎◌, Decides, arith}
 use Rattle.std.specs.List.{AllByRecursion}
 use Rattle.std.proofs.lemmas.Bool.{false≢true}
 use Rattle.std.proofs.lemmas.Bool.Decides.{Decides-and}
@@ -22,7 +22,8 @@ Answered Posed Says end = (Posed × Says end) ⊎ ((Posed → ⊥) × (end ≡ N
 
 -- an operation is enabled on the document as its test says
 Decides-enabled :
-    (v : ℕ → ℤ) (n : ℕ) → v 1 ≡ pos n → (o : SymOp) → Decides (enabled_to (op_at v o) (v 1 +ℤ pos 0)) (IsEnabled (op_at v o) n)
+    (v : ℕ → ℤ) (n : ℕ) → v 1 ≡ pos n → (o : SymOp)
+    → Decides (enabled_to (op_at v o) (v 1 +ℤ pos 0)) (IsEnabled (op_at v o) n)
 Decides-enabled v n e o = (
   λ t. IsEnabled-test (op_at v o) n (subst (λ m. enabled_to (op_at v o) m ≡ true) (plus-zero (v 1) ∙ e) t),
   λ h. subst (λ m. enabled_to (op_at v o) m ≡ true) (sym (plus-zero (v 1) ∙ e)) (enabled_to-true (op_at v o) n h),
@@ -33,7 +34,8 @@ pub Decides-all_enabled :
     → Decides (all_enabled v os) (AllByRecursion (λ o. IsEnabled (op_at v o) n) os)
 Decides-all_enabled v n e [] = (λ t. tt, λ h. refl)
 Decides-all_enabled v n e (o ∷ os) =
-    Decides-and (enabled_to (op_at v o) (v 1 +ℤ pos 0)) (all_enabled v os) (Decides-enabled v n e o) (Decides-all_enabled v n e os)
+    Decides-and (enabled_to (op_at v o) (v 1 +ℤ pos 0)) (all_enabled v os) (Decides-enabled v n e o)
+    (Decides-all_enabled v n e os)
 
 -- two operations are allowed as their test says
 pub Decides-allowed :
@@ -49,7 +51,8 @@ int_cases (pos n) = inl (n, refl)
 int_cases (negsuc n) = inr (n, refl)
 
 pub negative_length : (v : ℕ → ℤ) (n : ℕ) → v 0 ≡ pos 0 → v 1 ≡ negsuc n → int_le (v 0 +ℤ pos 0) (v 1 +ℤ pos 0) ≡ false
-negative_length v n z e = ap (λ x. int_le (x +ℤ pos 0) (v 1 +ℤ pos 0)) z ∙ ap (λ y. int_le (pos 0) y) (plus-zero (v 1) ∙ e)
+negative_length v n z e = ap (λ x. int_le (x +ℤ pos 0) (v 1 +ℤ pos 0)) z
+    ∙ ap (λ y. int_le (pos 0) y) (plus-zero (v 1) ∙ e)
 
 -- the tests in front of both plans: of the length, of what is enabled, and of what is allowed
 pub begins_answered :

@@ -1,5 +1,6 @@
 -- What the plans ask, and the names that stand for operations.
-use Rattle.std.proofs.Common.{◌≡◌, ℕ, ℤ, pos, negsuc, ◌-ℤ◌, ◌≤ℤ◌, true, List, [], ◌∷◌, refl, sym, subst, inl, inr, arith}
+use Rattle.std.proofs.Common.{◌≡◌, ℕ, ℤ, pos, negsuc, ◌-ℤ◌, ◌≤ℤ◌, true, List, [], ◌∷◌, refl, sym, subst, inl, inr}
+use Rattle.std.proofs.Common.{arith}
 use Rattle.std.specs.Prelude.{unsigned_abs}
 use Rattle.std.proofs.lemmas.Int.{ints}
 use Rattle.diff_graph.specs.declared.lit.Lit.{Lit}
@@ -29,7 +30,8 @@ use Rattle.ot_questions.proofs.Laws.{plan_asked}
 
 -- and compare like with like
 pub like_questions : (count : ℕ) (p : Plan Why) → AllAsked count p → AsksLike p
-like_questions count (Ask l on_yes on_no) h = (h.0.like, like_questions count on_yes h.1, like_questions count on_no h.2)
+like_questions count (Ask l on_yes on_no) h =
+    (h.0.like, like_questions count on_yes h.1, like_questions count on_no h.2)
 like_questions count Holds h = tt
 like_questions count (Fails why) h = tt
 
@@ -61,19 +63,24 @@ answers_are_like why (Fails cause) [] asks lead = tt
 answers_are_like why (Fails cause) (m ∷ w) asks lead = absurd lead
 
 pub positions_not_negative :
-    (f : Function) (ob : ObName) (why : Why) (w : List Lit) (v : ℕ → ℤ) → is_valid f ≡ true → LeadTo why (plan_of f ob) w
+    (f : Function) (ob : ObName) (why : Why) (w : List Lit) (v : ℕ → ℤ) → is_valid f ≡ true
+    → LeadTo why (plan_of f ob) w
     → v 0 ≡ pos 0 → AreMet v w → HasNoNegativePosition w v
 positions_not_negative f ob why w v valid lead z met x e spoken =
-    no_negative v z why known_at_first (plan_of f ob) w (plan_asked f ob valid).2 lead met (known_first v z why) x spoken e
+    no_negative v z why known_at_first (plan_of f ob) w (plan_asked f ob valid).2 lead met
+    (known_first v z why) x spoken e
 
 natural : (x : ℤ) → pos 0 ≤ℤ x → x ≡ pos (unsigned_abs x)
 natural (pos n) h = refl
 natural (negsuc n) h = absurd (omega (arith, ints))
 
-counted : (v : ℕ → ℤ) (k : Kind) (who : Who) → pos 0 ≤ℤ v (site_name who) → pos 0 ≤ℤ v (char_name who) → IsCounted v (sym_op k who)
-counted v kinds.Ins who site ch = record { site = natural (v (site_name who)) site; ch = natural (v (char_name who)) ch }
+counted : (v : ℕ → ℤ) (k : Kind) (who : Who) → pos 0 ≤ℤ v (site_name who) → pos 0 ≤ℤ v (char_name who)
+    → IsCounted v (sym_op k who)
+counted v kinds.Ins who site ch =
+    record { site = natural (v (site_name who)) site; ch = natural (v (char_name who)) ch }
 counted v kinds.Del who site ch = record { site = natural (v (site_name who)) site; ch = tt }
-counted v kinds.Upd who site ch = record { site = natural (v (site_name who)) site; ch = natural (v (char_name who)) ch }
+counted v kinds.Upd who site ch =
+    record { site = natural (v (site_name who)) site; ch = natural (v (char_name who)) ch }
 
 pub natural_names_stand :
     (v : ℕ → ℤ) (k : Kind) (who : Who) → v 0 ≡ pos 0 → pos 0 ≤ℤ v (site_name who) → pos 0 ≤ℤ v (char_name who)

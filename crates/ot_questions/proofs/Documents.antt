@@ -1,7 +1,8 @@
 -- Documents as functions from all integers, with a free blank cell beyond their ends, and operations as
 -- what they do to such functions. Nothing here has a condition on the index.
-use Rattle.std.proofs.Common.{◌≡◌, ℕ, zero, suc, ◌+◌, ◌-◌, ◌<◌, ◌≤◌, ℤ, pos, negsuc, ◌+ℤ◌, ◌≤ℤ◌, ◌<ℤ◌, Bool, true, false, if◌then◌else◌, int_le, int_lt, List}
-use Rattle.std.proofs.Common.{[], ◌∷◌, ◌++◌, length, take, drop, map, get_or, refl, ap, sym, ◌∙◌, inl, inr, arith, append_assoc, length-append, length-take}
+use Rattle.std.proofs.Common.{◌≡◌, ℕ, zero, suc, ◌+◌, ◌-◌, ◌<◌, ◌≤◌, ℤ, pos, negsuc, ◌+ℤ◌, ◌≤ℤ◌, ◌<ℤ◌, Bool, true}
+use Rattle.std.proofs.Common.{false, if◌then◌else◌, int_le, int_lt, List, [], ◌∷◌, ◌++◌, length, take, drop, map}
+use Rattle.std.proofs.Common.{get_or, refl, ap, sym, ◌∙◌, inl, inr, arith, append_assoc, length-append, length-take}
 use Rattle.std.proofs.Common.{length-drop}
 use Rattle.std.proofs.lemmas.Bool.{cases_lt}
 use Rattle.std.proofs.lemmas.Int.{ints}
@@ -68,12 +69,14 @@ edit_behind :
     (n count : ℕ) (cells d : List Cell) (i t : ℕ) (b : Cell) → n ≤ length d → i ≡ n + length cells + t
     → get_or (with_cells n count cells d) i b ≡ get_or d (n + count + t) b
 edit_behind n count cells d i t b fits e =
-    let len : length (take n d ++ cells) ≡ n + length cells = omega (arith, length-append (take n d) cells, length-take n d) in
+    let len : length (take n d ++ cells) ≡ n + length cells =
+    omega (arith, length-append (take n d) cells, length-take n d) in
     let place : i ≡ length (take n d ++ cells) + t = omega arith in
     ap (λ j. get_or (with_cells n count cells d) j b) place
     ∙ (get_or-append-add (take n d ++ cells) (drop (n + count) d) t b ∙ get_or-drop (n + count) d t b)
 
-edit_within : (n count : ℕ) (x : Cell) (d : List Cell) (b : Cell) → n ≤ length d → get_or (with_cells n count (x ∷ []) d) n b ≡ x
+edit_within : (n count : ℕ) (x : Cell) (d : List Cell) (b : Cell) → n ≤ length d
+    → get_or (with_cells n count (x ∷ []) d) n b ≡ x
 edit_within n count x d b fits =
     let place : n ≡ length (take n d) + 0 = omega (arith, length-take n d) in
     ap (λ xs. get_or xs n b) (append_assoc (take n d) (x ∷ []) (drop (n + count) d))
@@ -82,7 +85,8 @@ edit_within n count x d b fits =
 
 -- an edit takes so many cells out of a list, and puts its own in
 length-edit :
-    (n count : ℕ) (cells d : List Cell) → n + count ≤ length d → length (with_cells n count cells d) + count ≡ length d + length cells
+    (n count : ℕ) (cells d : List Cell) → n + count ≤ length d
+    → length (with_cells n count cells d) + count ≡ length d + length cells
 length-edit n count cells d h =
     omega (
       arith,
@@ -101,14 +105,15 @@ put_at :
     (b : Cell) (n ch site : ℕ) (d : List Cell) (j : ℤ) → n ≤ length d
     → cell_at b (with_cells n 0 (live_cell ch ∷ []) d) j ≡ shown Plain (Ins (pos n) ch site) (cell_at b d) j
 put_at b n ch site d (negsuc i) h =
-    sym (if_yes (int_lt (negsuc i) (pos n)) b (if int_le (negsuc i) (pos n) then live_cell ch else cell_at b d (negsuc i +ℤ negsuc 0))
-    (lt_yes (negsuc i) (pos n) (omega (arith, ints))))
+    sym (if_yes (int_lt (negsuc i) (pos n)) b (if int_le (negsuc i) (pos n) then live_cell ch
+    else cell_at b d (negsuc i +ℤ negsuc 0)) (lt_yes (negsuc i) (pos n) (omega (arith, ints))))
 put_at b n ch site d (pos i) h =
     elim (cases_lt i n) [
       | inl before ↦
           edit_before n 0 (live_cell ch ∷ []) d i b h before
           ∙ sym (if_yes (int_lt (pos i) (pos n)) (get_or d i b)
-          (if int_le (pos i) (pos n) then live_cell ch else cell_at b d (pos i +ℤ negsuc 0)) (lt_yes (pos i) (pos n) (omega (arith, ints))))
+          (if int_le (pos i) (pos n) then live_cell ch else cell_at b d (pos i +ℤ negsuc 0))
+          (lt_yes (pos i) (pos n) (omega (arith, ints))))
       | inr not_before ↦ elim (cases_lt n i) [
         | inl behind ↦ put_behind b n ch site d i h behind
         | inr not_behind ↦
@@ -144,18 +149,21 @@ cut_at :
     (b : Cell) (n site : ℕ) (d : List Cell) (j : ℤ) → n < length d
     → cell_at b (with_cells n 1 [] d) j ≡ shown Plain (Del (pos n) site) (cell_at b d) j
 cut_at b n site d (negsuc i) h =
-    sym (if_yes (int_lt (negsuc i) (pos n)) b (cell_at b d (negsuc i +ℤ pos 1)) (lt_yes (negsuc i) (pos n) (omega (arith, ints))))
+    sym (if_yes (int_lt (negsuc i) (pos n)) b (cell_at b d (negsuc i +ℤ pos 1))
+    (lt_yes (negsuc i) (pos n) (omega (arith, ints))))
 cut_at b n site d (pos i) h =
     elim (cases_lt i n) [
       | inl before ↦
           edit_before n 1 [] d i b (omega arith) before
-          ∙ sym (if_yes (int_lt (pos i) (pos n)) (get_or d i b) (get_or d (i + 1) b) (lt_yes (pos i) (pos n) (omega (arith, ints))))
+          ∙ sym (if_yes (int_lt (pos i) (pos n)) (get_or d i b) (get_or d (i + 1) b)
+          (lt_yes (pos i) (pos n) (omega (arith, ints))))
       | inr behind ↦
           (let e : i ≡ n + 0 + (i - n) = omega arith in
           let on : n + 1 + (i - n) ≡ i + 1 = omega arith in
           edit_behind n 1 [] d i (i - n) b (omega arith) e
           ∙ (ap (λ x. get_or d x b) on
-          ∙ sym (if_no (int_lt (pos i) (pos n)) (get_or d i b) (get_or d (i + 1) b) (lt_no (pos i) (pos n) (omega (arith, ints))))))
+          ∙ sym (if_no (int_lt (pos i) (pos n)) (get_or d i b) (get_or d (i + 1) b)
+          (lt_no (pos i) (pos n) (omega (arith, ints))))))
     ]
 
 -- another cell in place of the one at place n
@@ -170,15 +178,18 @@ change_at change b n d (pos i) h =
       | inl before ↦
           edit_before n 1 (change (get_or d n b) ∷ []) d i b (omega arith) before
           ∙ sym (if_yes (int_lt (pos i) (pos n)) (get_or d i b)
-          (if int_le (pos i) (pos n) then change (get_or d i b) else get_or d i b) (lt_yes (pos i) (pos n) (omega (arith, ints))))
+          (if int_le (pos i) (pos n) then change (get_or d i b) else get_or d i b)
+          (lt_yes (pos i) (pos n) (omega (arith, ints))))
       | inr not_before ↦ elim (cases_lt n i) [
         | inl behind ↦
             (let e : i ≡ n + 1 + (i - (n + 1)) = omega arith in
             edit_behind n 1 (change (get_or d n b) ∷ []) d i (i - (n + 1)) b (omega arith) e
             ∙ (ap (λ x. get_or d x b) (sym e)
-            ∙ (sym (if_no (int_le (pos i) (pos n)) (change (get_or d i b)) (get_or d i b) (le_no (pos i) (pos n) (omega (arith, ints))))
+            ∙ (sym (if_no (int_le (pos i) (pos n)) (change (get_or d i b)) (get_or d i b)
+            (le_no (pos i) (pos n) (omega (arith, ints))))
             ∙ sym (if_no (int_lt (pos i) (pos n)) (get_or d i b)
-            (if int_le (pos i) (pos n) then change (get_or d i b) else get_or d i b) (lt_no (pos i) (pos n) (omega (arith, ints)))))))
+            (if int_le (pos i) (pos n) then change (get_or d i b) else get_or d i b)
+            (lt_no (pos i) (pos n) (omega (arith, ints)))))))
         | inr not_behind ↦
             (let same : i ≡ n = omega arith in
             ap (λ x. get_or (with_cells n 1 (change (get_or d n b) ∷ []) d) x b) same
@@ -187,7 +198,8 @@ change_at change b n d (pos i) h =
             ∙ (sym (if_yes (int_le (pos i) (pos n)) (change (get_or d i b)) (get_or d i b)
             (le_yes (pos i) (pos n) (omega (arith, ints))))
             ∙ sym (if_no (int_lt (pos i) (pos n)) (get_or d i b)
-            (if int_le (pos i) (pos n) then change (get_or d i b) else get_or d i b) (lt_no (pos i) (pos n) (omega (arith, ints))))))))
+            (if int_le (pos i) (pos n) then change (get_or d i b) else get_or d i b)
+            (lt_no (pos i) (pos n) (omega (arith, ints))))))))
       ]
     ]
 
@@ -200,7 +212,8 @@ edit_at :
     (change : Cell → Cell) (b : Cell) (n : ℕ) (d : List Cell) (j : ℤ) → n < length d
     → cell_at b (with_cells n 1 (map change (take 1 (drop n d))) d) j ≡ changed change (pos n) (cell_at b d) j
 edit_at change b n d j here =
-    ap (λ cells. cell_at b (with_cells n 1 (map change cells) d) j) (one_cell d n b here) ∙ change_at change b n d j here
+    ap (λ cells. cell_at b (with_cells n 1 (map change cells) d) j) (one_cell d n b here)
+    ∙ change_at change b n d j here
 
 -- an enabled operation, seen at every index
 pub cell_at-document_after :
@@ -218,7 +231,8 @@ cell_at-document_after b mode (Upd (negsuc n) ch site) d j h = absurd (omega (ar
 cell_at-document_after b mode Nop d j h = refl
 
 -- an operation shows equal documents equal
-pub shown-same : (mode : Mode) (o : Op) (g h : ℤ → Cell) → ((j : ℤ) → g j ≡ h j) → (j : ℤ) → shown mode o g j ≡ shown mode o h j
+pub shown-same : (mode : Mode) (o : Op) (g h : ℤ → Cell) → ((j : ℤ) → g j ≡ h j) → (j : ℤ)
+    → shown mode o g j ≡ shown mode o h j
 shown-same Plain (Ins at ch site) g h e j = rw (e j, e (j +ℤ negsuc 0)) refl
 shown-same Tomb (Ins at ch site) g h e j = rw (e j, e (j +ℤ negsuc 0)) refl
 shown-same Plain (Del at site) g h e j = rw (e j, e (j +ℤ pos 1)) refl
@@ -235,9 +249,11 @@ op_growth Tomb (Del at site) = pos 0
 op_growth mode (Upd at ch site) = pos 0
 op_growth mode Nop = pos 0
 
-put_length : (n ch : ℕ) (d : List Cell) → n ≤ length d → pos (length (with_cells n 0 (live_cell ch ∷ []) d)) ≡ pos (length d) +ℤ pos 1
+put_length : (n ch : ℕ) (d : List Cell) → n ≤ length d
+    → pos (length (with_cells n 0 (live_cell ch ∷ []) d)) ≡ pos (length d) +ℤ pos 1
 put_length n ch d h =
-    let e : length (with_cells n 0 (live_cell ch ∷ []) d) + 0 ≡ length d + 1 = length-edit n 0 (live_cell ch ∷ []) d (omega arith) in
+    let e : length (with_cells n 0 (live_cell ch ∷ []) d) + 0 ≡ length d + 1 =
+    length-edit n 0 (live_cell ch ∷ []) d (omega arith) in
     omega (arith, ints)
 
 edit_length :
@@ -247,8 +263,8 @@ edit_length change n d here =
     let blank = live_cell 0 in
     let e : length (with_cells n 1 (change (get_or d n blank) ∷ []) d) + 1 ≡ length d + 1
     = length-edit n 1 (change (get_or d n blank) ∷ []) d (omega arith) in
-    let one : length (with_cells n 1 (map change (take 1 (drop n d))) d) ≡ length (with_cells n 1 (change (get_or d n blank) ∷ []) d)
-    = ap (λ cells. length (with_cells n 1 (map change cells) d)) (one_cell d n blank here) in
+    let one : length (with_cells n 1 (map change (take 1 (drop n d))) d) ≡ length (with_cells n 1 (change (get_or d n
+    blank) ∷ []) d) = ap (λ cells. length (with_cells n 1 (map change cells) d)) (one_cell d n blank here) in
     omega (arith, ints)
 
 -- a document grows by what its operation adds

@@ -1,5 +1,6 @@
 -- What may come out of a transformation: nop, or the first operation at another place.
-use Rattle.std.proofs.Common.{◌≡◌, ℕ, ℤ, Bool, true, false, if◌then◌else◌, Option, Some, None, List, [], ◌∷◌, refl, ap, sym, ◌∙◌, subst, inl, inr, ◌⊎◌}
+use Rattle.std.proofs.Common.{◌≡◌, ℕ, ℤ, Bool, true, false, if◌then◌else◌, Option, Some, None, List, [], ◌∷◌, refl, ap}
+use Rattle.std.proofs.Common.{sym, ◌∙◌, subst, inl, inr, ◌⊎◌}
 use Rattle.ot_model.specs.declared.op.Kind.{Kind}
 use Rattle.fn_rules.specs.declared.function.Res.{Res}
 use Rattle.fn_rules.specs.declared.function.Res.TheVariants as results
@@ -44,7 +45,8 @@ result_is_form (results.Keep base k) a b = inr (moved a (plus (sym_at (of_side b
 result_is_form results.Nop a b = inl refl
 
 form_choice :
-    (t : Bool) (a x r : SymOp) (o : Option SymOp) → IsFormOf a x → (o ≡ Some r → IsFormOf a r) → (if t then Some x else o) ≡ Some r
+    (t : Bool) (a x r : SymOp) (o : Option SymOp) → IsFormOf a x → (o ≡ Some r → IsFormOf a r)
+    → (if t then Some x else o) ≡ Some r
     → IsFormOf a r
 form_choice true a x r o h other e = let same : x ≡ r = cc in subst (λ y. IsFormOf a y) same h
 form_choice false a x r o h other e = other e
@@ -55,7 +57,8 @@ first_is_form v (c ∷ cs) a b r e =
     form_choice (sym_holds v c.guard a b) a (sym_result c.res a b) r (sym_first v cs a b) (result_is_form c.res a b)
     (first_is_form v cs a b r) e
 
-by_kinds_is_form : (v : ℕ → ℤ) (f : Function) (a b r : SymOp) (j k : Option Kind) → sym_by_kinds v f a b j k ≡ Some r → IsFormOf a r
+by_kinds_is_form : (v : ℕ → ℤ) (f : Function) (a b r : SymOp) (j k : Option Kind)
+    → sym_by_kinds v f a b j k ≡ Some r → IsFormOf a r
 by_kinds_is_form v f a b r None other e = inl (cc)
 by_kinds_is_form v f a b r (Some k) None e = let same : a ≡ r = cc in subst (λ y. IsFormOf a y) same
     (inr (record { kind = refl; site = refl; ch = refl }))
@@ -65,8 +68,10 @@ pub transformed_is_form : (v : ℕ → ℤ) (f : Function) (a b r : SymOp) → s
 transformed_is_form v f a b r e = by_kinds_is_form v f a b r (sym_kind a) (sym_kind b) e
 
 pub form_of_form :
-    (v : ℕ → ℤ) (f : Function) (a b c q r : SymOp) → sym_transformed v f a b ≡ Some q → sym_transformed v f q c ≡ Some r → IsFormOf a r
-form_of_form v f a b c q r e h = IsFormOf-trans a q r (transformed_is_form v f a b q e) (transformed_is_form v f q c r h)
+    (v : ℕ → ℤ) (f : Function) (a b c q r : SymOp) → sym_transformed v f a b ≡ Some q
+    → sym_transformed v f q c ≡ Some r → IsFormOf a r
+form_of_form v f a b c q r e h =
+    IsFormOf-trans a q r (transformed_is_form v f a b q e) (transformed_is_form v f q c r h)
 
 -- a form keeps site and character
 pub IsCounted-form : (v : ℕ → ℤ) (a r : SymOp) → IsFormOf a r → IsCounted v a → IsCounted v r
@@ -76,7 +81,8 @@ IsCounted-form v a r (inr m) h = record {
   ch = subst (λ n. IsCountedName v n) (sym m.ch) h.ch;
 }
 
-pub counted_form : (v : ℕ → ℤ) (f : Function) (a b r : SymOp) → IsCounted v a → sym_transformed v f a b ≡ Some r → IsCounted v r
+pub counted_form : (v : ℕ → ℤ) (f : Function) (a b r : SymOp) → IsCounted v a
+    → sym_transformed v f a b ≡ Some r → IsCounted v r
 counted_form v f a b r h e = IsCounted-form v a r (transformed_is_form v f a b r e) h
 
 char_of_form : (a r : SymOp) (c : ℕ) → IsFormOf a r → sym_char r ≡ Some c → sym_char a ≡ Some c
@@ -87,7 +93,8 @@ char_of_form a r c (inl nop) e = absurd (no_char (sym (ap sym_char nop) ∙ e))
 char_of_form a r c (inr m) e = sym m.ch ∙ e
 
 pub form_char :
-    (v : ℕ → ℤ) (f : Function) (a b r : SymOp) (c : ℕ) → sym_transformed v f a b ≡ Some r → sym_char r ≡ Some c → sym_char a ≡ Some c
+    (v : ℕ → ℤ) (f : Function) (a b r : SymOp) (c : ℕ) → sym_transformed v f a b ≡ Some r
+    → sym_char r ≡ Some c → sym_char a ≡ Some c
 form_char v f a b r c e h = char_of_form a r c (transformed_is_form v f a b r e) h
 
 -- and so of the operations that the names stand for

@@ -1,6 +1,7 @@
 -- The positions that a plan asks about: each is first asked whether it is at least 0, and where it is not,
 -- nothing is to be shown. So no answers on the way to an end that fails speak of a negative position.
-use Rattle.std.proofs.Common.{◌≡◌, ◌⊎◌, ℕ, ℤ, pos, ◌+ℤ◌, ◌≤ℤ◌, Bool, true, false, ◌||◌, nat_eq, List, [], ◌∷◌, refl, sym, ◌∙◌, subst, inl, inr, arith}
+use Rattle.std.proofs.Common.{◌≡◌, ◌⊎◌, ℕ, ℤ, pos, ◌+ℤ◌, ◌≤ℤ◌, Bool, true, false, ◌||◌, nat_eq, List, [], ◌∷◌, refl}
+use Rattle.std.proofs.Common.{sym, ◌∙◌, subst, inl, inr, arith}
 use Rattle.std.proofs.lemmas.Bool.{false≢true}
 use Rattle.std.proofs.lemmas.Bool.Decides.{Decides-eqb}
 use Rattle.std.proofs.lemmas.Int.{ints}
@@ -45,7 +46,8 @@ either_way false b e = inr e
 
 -- what is so of both names of a literal, and of the names that the others speak of
 by_name :
-    (P : ℕ → Type 0) (m : Lit) (w : List Lit) (x : ℕ) → P m.x → P m.y → (speaks_of w x ≡ true → P x) → speaks_of (m ∷ w) x ≡ true → P x
+    (P : ℕ → Type 0) (m : Lit) (w : List Lit) (x : ℕ) → P m.x → P m.y → (speaks_of w x ≡ true → P x)
+    → speaks_of (m ∷ w) x ≡ true → P x
 by_name P m w x first second others e =
     elim (either_way (nat_eq m.x x || nat_eq m.y x) (speaks_of w x) e) [
       | inl one ↦
@@ -56,7 +58,8 @@ by_name P m w x first second others e =
       | inr later ↦ others later
     ]
 
-known_more : (P : ℕ → Type 0) (known : ℕ → Bool) (y : ℕ) → ((x : ℕ) → known x ≡ true → P x) → P y → (x : ℕ) → known x || nat_eq x y ≡ true → P x
+known_more : (P : ℕ → Type 0) (known : ℕ → Bool) (y : ℕ) → ((x : ℕ) → known x ≡ true → P x) → P y → (x : ℕ)
+    → known x || nat_eq x y ≡ true → P x
 known_more P known y before here x e =
     elim (either_way (known x) (nat_eq x y) e) [
       | inl is ↦ before x is
@@ -92,7 +95,8 @@ module _ (v : ℕ → ℤ) (z : v 0 ≡ pos 0) (why : Why) where
       let here = found_so m l same is met.0 in
       by_name (NotNegative v) m w x (subst (λ n. NotNegative v n.x) (sym (same ∙ is)) zero_is_none)
       (subst (λ n. NotNegative v n.y) (sym same) here)
-      (λ later. no_negative (λ y. known y || nat_eq y l.y) p w hp lead met.1 (known_more (NotNegative v) known l.y before here) x later) spoken
+      (λ later. no_negative (λ y. known y || nat_eq y l.y) p w hp lead met.1
+      (known_more (NotNegative v) known l.y before here) x later) spoken
   no_negative known (Ask l p q) (m ∷ w) (inr (is, none, hp)) (inr (same, lead)) met before x spoken =
       absurd (no_way_after_holds why q w none lead)
   no_negative known Holds w asks lead met before x spoken = absurd lead

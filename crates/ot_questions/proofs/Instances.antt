@@ -1,7 +1,7 @@
 -- Valuations and operations: each triple of operations is named by a valuation, and the value of a plan
 -- does not change where all sites are raised by one number and all characters by another.
-use Rattle.std.proofs.Common.{◌≡◌, ℕ, ◌+◌, ◌≤◌, ℤ, pos, negsuc, ◌+ℤ◌, if◌then◌else◌, nat_eq, int_le, is_none, IsTrue, Option, Some, None, refl, ap, sym, ◌∙◌}
-use Rattle.std.proofs.Common.{subst, arith}
+use Rattle.std.proofs.Common.{◌≡◌, ℕ, ◌+◌, ◌≤◌, ℤ, pos, negsuc, ◌+ℤ◌, if◌then◌else◌, nat_eq, int_le, is_none, IsTrue}
+use Rattle.std.proofs.Common.{Option, Some, None, refl, ap, sym, ◌∙◌, subst, arith}
 use Rattle.std.specs.Prelude.{unsigned_abs}
 use Rattle.std.proofs.lemmas.Bool.{false≢true}
 use Rattle.std.proofs.lemmas.Int.{ints}
@@ -80,10 +80,12 @@ met_raised count v s c l good =
     shifted (v l.x) (v l.y) l.k (raise s c (sort_name l.x)) (raise s c (sort_name l.y)) e
   where
     shifted : (x y k r t : ℤ) → r ≡ t → int_le (x +ℤ r) ((y +ℤ t) +ℤ k) ≡ int_le x (y +ℤ k)
-    shifted x y k r t e = int_le-like (x +ℤ r) ((y +ℤ t) +ℤ k) x (y +ℤ k) (λ h. omega (arith, ints)) (λ h. omega (arith, ints))
+    shifted x y k r t e =
+        int_le-like (x +ℤ r) ((y +ℤ t) +ℤ k) x (y +ℤ k) (λ h. omega (arith, ints)) (λ h. omega (arith, ints))
 
 -- raising changes no answer
-pub end-raised : (count : ℕ) (v : ℕ → ℤ) (s c : ℕ) (p : Plan Why) → AllAsked count p → end_of p (raised v s c) ≡ end_of p v
+pub end-raised : (count : ℕ) (v : ℕ → ℤ) (s c : ℕ) (p : Plan Why) → AllAsked count p
+    → end_of p (raised v s c) ≡ end_of p v
 end-raised count v s c (Ask l on_yes on_no) h =
     ap (λ t. if t then end_of on_yes (raised v s c) else end_of on_no (raised v s c)) (met_raised count v s c l h.0)
     ∙ (ap (λ e. if is_met v l then e else end_of on_no (raised v s c)) (end-raised count v s c on_yes h.1)
@@ -113,12 +115,19 @@ counted_name v name who sort e far =
     subst (λ r. IsCount (v (name who) +ℤ r)) (sym (ap (raise (enough v site_name) (enough v char_name)) e ∙ far))
     (count_raised (v (name who)) (enough v name) (enough_for v name who))
 
-pub counted_raised : (v : ℕ → ℤ) (k : Kind) (who : Who) → IsCounted (raised v (enough v site_name) (enough v char_name)) (sym_op k who)
+pub counted_raised : (v : ℕ → ℤ) (k : Kind) (who : Who)
+    → IsCounted (raised v (enough v site_name) (enough v char_name)) (sym_op k who)
 counted_raised v kinds.Ins who =
-    record { site = counted_name v site_name who Site (site_sort who) refl; ch = counted_name v char_name who Char (char_sort who) refl }
+    record {
+      site = counted_name v site_name who Site (site_sort who) refl;
+      ch = counted_name v char_name who Char (char_sort who) refl;
+    }
 counted_raised v kinds.Del who = record { site = counted_name v site_name who Site (site_sort who) refl; ch = tt }
 counted_raised v kinds.Upd who =
-    record { site = counted_name v site_name who Site (site_sort who) refl; ch = counted_name v char_name who Char (char_sort who) refl }
+    record {
+      site = counted_name v site_name who Site (site_sort who) refl;
+      ch = counted_name v char_name who Char (char_sort who) refl;
+    }
 
 -- a plan's value is true where it ends in no cause
 pub none_from_value : (o : Option Why) → IsTrue (is_none o) → o ≡ None

@@ -40,8 +40,8 @@ plan_walked :
     → IsWalked (name_count ob) known_at_first (most_asked ob atoms) (plan_of f ob)
 unfolding most_asked
 plan_walked f (Pair k l) atoms valid few =
-    walked_more 9 known_at_first (4 * atoms + 16 + 4 + 1 + 1 + 1 + 1 + 1) (4 * atoms + 25) (plan_of f (Pair k l)) (omega arith)
-    (pair_walked f valid atoms few k l)
+    walked_more 9 known_at_first (4 * atoms + 16 + 4 + 1 + 1 + 1 + 1 + 1) (4 * atoms + 25) (plan_of f (Pair k l))
+    (omega arith) (pair_walked f valid atoms few k l)
 plan_walked f (Triple k l m) atoms valid few =
     walked_more 12 known_at_first (2 + 6 * atoms + 6 * atoms + 4 + 4 + 4 + 1 + 1 + 1 + 1 + 1 + 1 + 1) (12 * atoms + 21)
     (plan_of f (Triple k l m)) (omega arith) (triple_walked f valid atoms few k l m)

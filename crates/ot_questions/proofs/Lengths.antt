@@ -1,6 +1,6 @@
 -- A plan holds everywhere where it holds at each length, since at a negative length there is nothing to show.
-use Rattle.std.proofs.Common.{◌≡◌, ℕ, ◌<◌, ℤ, pos, negsuc, ◌+ℤ◌, ◌-ℤ◌, true, if◌then◌else◌, int_le, is_none, IsTrue, Some, None, List, [], ◌∷◌, refl, ap, ◌∙◌}
-use Rattle.std.proofs.Common.{subst, inl, inr, arith}
+use Rattle.std.proofs.Common.{◌≡◌, ℕ, ◌<◌, ℤ, pos, negsuc, ◌+ℤ◌, ◌-ℤ◌, true, if◌then◌else◌, int_le, is_none, IsTrue}
+use Rattle.std.proofs.Common.{Some, None, List, [], ◌∷◌, refl, ap, ◌∙◌, subst, inl, inr, arith}
 use Rattle.std.proofs.lemmas.Bool.{cases_Bool}
 use Rattle.std.proofs.lemmas.Int.{ints}
 use Rattle.fn_rules.specs.declared.function.ObName.{ObName}

@@ -1,6 +1,6 @@
 -- Offsets stay small.
-use Rattle.std.proofs.Common.{◌≡◌, ℕ, ◌+◌, ℤ, pos, negsuc, ◌+ℤ◌, ◌≤ℤ◌, Bool, true, false, ◌&&◌, IsTrue, nat_le, int_le, List, [], ◌∷◌, length, arith, rules}
-use Rattle.std.proofs.Common.{refl, sym, subst, ◌≤◌}
+use Rattle.std.proofs.Common.{◌≡◌, ℕ, ◌+◌, ℤ, pos, negsuc, ◌+ℤ◌, ◌≤ℤ◌, Bool, true, false, ◌&&◌, IsTrue, nat_le, int_le}
+use Rattle.std.proofs.Common.{List, [], ◌∷◌, length, arith, rules, refl, sym, subst, ◌≤◌}
 use Rattle.std.specs.Ordering.{int_eq}
 use Rattle.std.specs.List.{AllByRecursion, list_all}
 use Rattle.std.proofs.lemmas.Int.{ints}
@@ -11,7 +11,8 @@ use Rattle.fn_rules.specs.declared.function.Res.{Res}
 use Rattle.fn_rules.specs.declared.function.Res.TheVariants as results
 use Rattle.fn_rules.specs.Formulas.{Formula, Always, Compare, And, Or, Not}
 use Rattle.fn_rules.specs.Functions.{GuardedCase}
-use Rattle.fn_rules.specs.Validity.{is_offset, is_offset_for, has_valid_atoms, is_valid_res, is_valid_case, are_valid_cases, atoms_of, nesting_of}
+use Rattle.fn_rules.specs.Validity.{is_offset, is_offset_for, has_valid_atoms, is_valid_res, is_valid_case}
+use Rattle.fn_rules.specs.Validity.{are_valid_cases, atoms_of, nesting_of}
 use Rattle.fn_rules.specs.declared.limits.TheConstants.{MAX_CASES, MAX_ATOMS, MAX_NESTING}
 use Rattle.fn_rules.specs.declared.guard.Tightness.TheVariants.{Loose}
 use Rattle.ot_questions.specs.declared.place.SymOp.{SymOp}
@@ -76,8 +77,8 @@ IsNear-res results.Nop h = IsNear-zero 99
 -- a case that may stand in a block has small offsets
 IsNearCase-valid : (chars : Bool) (c : GuardedCase) → is_valid_case chars c ≡ true → IsNearCase c
 IsNearCase-valid chars c e =
-    let res = both_true (has_valid_atoms chars c.guard && nat_le (atoms_of c.guard) MAX_ATOMS && nat_le (nesting_of Loose c.guard)
-    MAX_NESTING) (is_valid_res c.res) e in
+    let res = both_true (has_valid_atoms chars c.guard && nat_le (atoms_of c.guard) MAX_ATOMS
+    && nat_le (nesting_of Loose c.guard) MAX_NESTING) (is_valid_res c.res) e in
     let most = both_true (has_valid_atoms chars c.guard && nat_le (atoms_of c.guard) MAX_ATOMS)
     (nat_le (nesting_of Loose c.guard) MAX_NESTING) res.0 in
     let atoms = both_true (has_valid_atoms chars c.guard) (nat_le (atoms_of c.guard) MAX_ATOMS) most.0 in
@@ -91,7 +92,8 @@ AllByRecursion-list_all p P tells [] e = tt
 AllByRecursion-list_all p P tells (x ∷ xs) e =
     let both = both_true (p x) (list_all p xs) e in (tells x both.0, AllByRecursion-list_all p P tells xs both.1)
 
-pub AreNear-block : (chars : Bool) (cs : List GuardedCase) → are_valid_cases chars cs ≡ true → AllByRecursion IsNearCase cs
+pub AreNear-block : (chars : Bool) (cs : List GuardedCase) → are_valid_cases chars cs ≡ true
+    → AllByRecursion IsNearCase cs
 AreNear-block chars cs e =
     let both = both_true (nat_le (length cs) MAX_CASES) (list_all (is_valid_case chars) cs) e in
     AllByRecursion-list_all (is_valid_case chars) IsNearCase (IsNearCase-valid chars) cs both.1
@@ -120,7 +122,8 @@ is_result (results.Keep Second k) (Upd p c s) b near =
 is_result (results.Keep Second k) Nop b near = record { near = λ n x y. IsNear-zero (n + 99); kind = λ head h. h }
 is_result results.Nop a b near = record { near = λ n x y. IsNear-zero (n + 99); kind = λ head h. refl }
 
-pub IsResultOf-value : (res : Res) (a b r : SymOp) → r ≡ sym_result res a b → IsNear 99 (offset_of res) → IsResultOf a b r
+pub IsResultOf-value : (res : Res) (a b r : SymOp) → r ≡ sym_result res a b
+    → IsNear 99 (offset_of res) → IsResultOf a b r
 IsResultOf-value res a b r e near = subst (λ o. IsResultOf a b o) (sym e) (is_result res a b near)
 
 -- nop, and the first operation itself, may come out of a transformation

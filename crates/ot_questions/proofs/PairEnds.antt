@@ -1,7 +1,8 @@
 -- What the end of a pair's plan says of the instance: the questions go the way of the interpreter, and the
 -- end is that of the instance, on any document of the length.
-use Rattle.std.proofs.Common.{◌≡◌, ℕ, ℤ, pos, negsuc, ◌+ℤ◌, ◌≤ℤ◌, ◌<ℤ◌, true, false, int_le, int_lt, Option, Some, None, option_map, List, [], ◌∷◌, length}
-use Rattle.std.proofs.Common.{refl, ap, sym, ◌∙◌, subst, inl, inr, ◌⊎◌, Decides, arith}
+use Rattle.std.proofs.Common.{◌≡◌, ℕ, ℤ, pos, negsuc, ◌+ℤ◌, ◌≤ℤ◌, ◌<ℤ◌, true, false, int_le, int_lt, Option, Some, None}
+use Rattle.std.proofs.Common.{option_map, List, [], ◌∷◌, length, refl, ap, sym, ◌∙◌, subst, inl, inr, ◌⊎◌, Decides}
+use Rattle.std.proofs.Common.{arith}
 use Rattle.std.specs.Prelude.{◌≢◌, unwrap_or, IsSome}
 use Rattle.std.specs.List.{AllByRecursion}
 use Rattle.std.specs.Ordering.{int_eq}
@@ -29,14 +30,17 @@ use Rattle.ot_questions.specs.Meaning.{op_at}
 use Rattle.ot_questions.specs.Instances.{Forms, after_two, EndWith, cell_in, AgreeAt, PairFails, TellsApart}
 use Rattle.ot_questions.proofs.Tests.{Decides-int_le, Decides-int_lt, plus-zero, choose}
 use Rattle.ot_questions.proofs.Values.{sym_transformed, goes_on, enabled_to, seen}
-use Rattle.ot_questions.proofs.Operations.{IsCounted, IsCountedName, named, transform_of-op_at, char_of-op_at, enabled_to-true, IsEnabled-test}
+use Rattle.ot_questions.proofs.Operations.{IsCounted, IsCountedName, named, transform_of-op_at, char_of-op_at}
+use Rattle.ot_questions.proofs.Operations.{enabled_to-true, IsEnabled-test}
 use Rattle.ot_questions.proofs.Forms.{form_char}
 use Rattle.ot_questions.proofs.Documents.{cell_at}
 use Rattle.ot_questions.proofs.Seen.{source_meant, flag_meant, meant, PutsOnly, each_seen}
 use Rattle.ot_questions.proofs.Sameness.{found_same}
-use Rattle.ot_questions.proofs.Telling.{IsReadFlag, IsFreshName, IsFreshSource, HasCell, IsTold, told_source, told_flag, read_base, read_dead, dead_flag}
-use Rattle.ot_questions.proofs.Telling.{cell_at-in, within_by_blanks, same_ends, told_same}
-use Rattle.ot_questions.proofs.Pairs.{form_at, length_after, length_after_two, cell_seen, blank_free, documents_end, lengths_end, ways_end, end-converge}
+use Rattle.ot_questions.proofs.Telling.{IsReadFlag, IsFreshName, IsFreshSource, HasCell, IsTold, told_source, told_flag}
+use Rattle.ot_questions.proofs.Telling.{read_base, read_dead, dead_flag, cell_at-in, within_by_blanks, same_ends}
+use Rattle.ot_questions.proofs.Telling.{told_same}
+use Rattle.ot_questions.proofs.Pairs.{form_at, length_after, length_after_two, cell_seen, blank_free, documents_end}
+use Rattle.ot_questions.proofs.Pairs.{lengths_end, ways_end, end-converge}
 
 -- what the end says of two operations that are enabled and allowed
 abbrev pub PairSays : Function → List Cell → Op → Op → ℤ → Option Why → Type 0
@@ -53,7 +57,8 @@ PairSays f d a b i (Some Operations) = ⊥
 -- the cells there agree where they do for every blank, as far as the documents go
 cells_agree :
     (left right : List Cell) (i : ℤ) → length left ≡ length right
-    → ((x : Cell) → pos 0 ≤ℤ i → i <ℤ pos (length left) → cell_at x left i ≡ cell_at x right i) → cell_in left i ≡ cell_in right i
+    → ((x : Cell) → pos 0 ≤ℤ i → i <ℤ pos (length left) → cell_at x left i ≡ cell_at x right i)
+    → cell_in left i ≡ cell_in right i
 cells_agree left right (negsuc i) e h = refl
 cells_agree left right (pos i) e h =
     elim (cases_lt i (length left)) [
@@ -67,7 +72,8 @@ cells_agree left right (pos i) e h =
     blank : Cell
     blank = record { ch = 0; live = true }
 
-cell_at_unwrapped : (left right : List Cell) (i : ℤ) → cell_in left i ≡ cell_in right i → (x : Cell) → cell_at x left i ≡ cell_at x right i
+cell_at_unwrapped : (left right : List Cell) (i : ℤ) → cell_in left i ≡ cell_in right i → (x : Cell)
+    → cell_at x left i ≡ cell_at x right i
 cell_at_unwrapped left right (negsuc i) e x = refl
 cell_at_unwrapped left right (pos i) e x =
     sym (unwrap_or-slice_get left i x) ∙ (ap (λ o. unwrap_or o x) e ∙ unwrap_or-slice_get right i x)
@@ -113,9 +119,11 @@ fresh_char v d o c counted e apart = (
 )
 
 -- what is read of a document at the index, which lies within it: what comes from the base document is there
-module _ (v : ℕ → ℤ) (d side : List Cell) (x : Finished) (shows : (b : Cell) → cell_at b side (v 2) ≡ meant v (cell_at b d) x)
+module _ (v : ℕ → ℤ) (d side : List Cell) (x : Finished) (shows : (b : Cell)
+    → cell_at b side (v 2) ≡ meant v (cell_at b d) x)
     (low : pos 0 ≤ℤ v 2) (high : v 2 <ℤ pos (length side)) where
-  one_part : {X : Type 0} (part : Cell → X) (b c : Cell) → part (meant v (cell_at b d) x) ≡ part (meant v (cell_at c d) x)
+  one_part : {X : Type 0} (part : Cell → X) (b c : Cell)
+      → part (meant v (cell_at b d) x) ≡ part (meant v (cell_at c d) x)
   one_part part b c = ap part (sym (shows b) ∙ (blank_free side b c (v 2) low high ∙ shows c))
 
   source_within : (k : ℤ) → x.source ≡ Base k → HasCell d (v 2 +ℤ k)
@@ -128,7 +136,8 @@ module _ (v : ℕ → ℤ) (d side : List Cell) (x : Finished) (shows : (b : Cel
       within_by_blanks (λ w. w.live) (dead_cell (live_cell 0)) (live_cell 0) false≢true d (v 2 +ℤ k)
       (λ b c. subst (λ t. flag_meant v (cell_at b d) t ≡ flag_meant v (cell_at c d) t) s (one_part (λ w. w.live) b c))
 
-module _ (v : ℕ → ℤ) (f : Function) (x y : SymOp) (d : List Cell) (z : v 0 ≡ pos 0) (e : v 1 ≡ pos (length d)) (cx : IsCounted v x)
+module _ (v : ℕ → ℤ) (f : Function) (x y : SymOp) (d : List Cell) (z : v 0 ≡ pos 0)
+    (e : v 1 ≡ pos (length d)) (cx : IsCounted v x)
     (cy : IsCounted v y) (ex : IsEnabled (op_at v x) (length d)) (ey : IsEnabled (op_at v y) (length d)) where
   abbrev Says : Option Why → Type 0
   Says end = PairSays f d (op_at v x) (op_at v y) (v 2) end
@@ -181,7 +190,8 @@ module _ (v : ℕ → ℤ) (f : Function) (x y : SymOp) (d : List Cell) (z : v 0
 
       agreed :
           length left ≡ length right
-          → ((b : Cell) → pos 0 ≤ℤ v 2 → v 2 <ℤ pos (length left) → cell_at b left (v 2) ≡ cell_at b right (v 2)) → Says None
+          → ((b : Cell) → pos 0 ≤ℤ v 2 → v 2 <ℤ pos (length left) → cell_at b left (v 2) ≡ cell_at b right (v 2))
+          → Says None
       agreed same h = record { forms = forms; enabled = (hp, hq); ends = (same, cells_agree left right (v 2) same h) }
 
       module _ (same : length left ≡ length right) (low : pos 0 ≤ℤ v 2) (high : v 2 <ℤ pos (length left)) where
@@ -239,7 +249,8 @@ module _ (v : ℕ → ℤ) (f : Function) (x y : SymOp) (d : List Cell) (z : v 0
               (ops : List SymOp) → AllByRecursion (λ o. (c : ℕ) → sym_char o ≡ Some c → IsFreshName v d c) ops
               → IsReadFrom (seen v f.head.mode ops (pos 0))
           seen_from ops h =
-              each_seen IsReadFrom (λ k. (refl, tt)) (λ w h. (dead_flag w.source, h.1)) v f.head.mode ops (pos 0) (read_from ops h)
+              each_seen IsReadFrom (λ k. (refl, tt)) (λ w h. (dead_flag w.source, h.1)) v f.head.mode ops
+              (pos 0) (read_from ops h)
 
           told :
               (w : Finished) → IsReadFrom w → ((k : ℤ) → w.source ≡ Base k → HasCell d (v 2 +ℤ k))
@@ -258,7 +269,8 @@ module _ (v : ℕ → ℤ) (f : Function) (x y : SymOp) (d : List Cell) (z : v 0
               (ap (λ w. w.ch) (sym (cell_at-in d (v 2 +ℤ k) b there.0 there.1)) ∙
               (sym chars ∙ ap (λ w. w.ch) (cell_at-in d (v 2 +ℤ j) b here.0 here.1))))
 
-          found : (b : Cell) → cell_in left (v 2) ≡ cell_in right (v 2) → end_of (ask_same left_seen right_seen) v ≡ None
+          found : (b : Cell) → cell_in left (v 2) ≡ cell_in right (v 2)
+              → end_of (ask_same left_seen right_seen) v ≡ None
           found b one =
               told_same v d b dead_offset tells.live tells.dies left_seen right_seen refl
               (told left_seen (seen_from (p ∷ x ∷ []) (λ c s. y_fresh c (form_char v f y x p c ep s), (x_fresh, tt)))
@@ -274,7 +286,8 @@ module _ (v : ℕ → ℤ) (f : Function) (x y : SymOp) (d : List Cell) (z : v 0
             elim (same_ends v left_seen right_seen) [
               | inl none ↦
                   subst (λ end. Says end) (sym none)
-                  (agreed same (λ b lo hi. left_cell b ∙ (found_same v (cell_at b d) left_seen right_seen none ∙ sym (right_cell b))))
+                  (agreed same (λ b lo hi. left_cell b
+                  ∙ (found_same v (cell_at b d) left_seen right_seen none ∙ sym (right_cell b))))
               | inr cells ↦
                   subst (λ end. Says end) (sym cells) (
                     record { forms = forms; enabled = (hp, hq); ends = same },
@@ -295,9 +308,11 @@ module _ (v : ℕ → ℤ) (f : Function) (x y : SymOp) (d : List Cell) (z : v 0
           growth f.head.mode x +ℤ growth f.head.mode p ≡ growth f.head.mode y +ℤ growth f.head.mode q
           → Says (documents_end v f.head.mode (p ∷ x ∷ []) (q ∷ y ∷ []) (growth f.head.mode x +ℤ growth f.head.mode p))
       documents_say sums =
-          let same : length left ≡ length right = same_ends_of _ _ _ _ (ap (λ s. v 1 +ℤ s) sums) left_length right_length in
+          let same : length left ≡ length right =
+          same_ends_of _ _ _ _ (ap (λ s. v 1 +ℤ s) sums) left_length right_length in
           choose (λ end. Says end) (int_le (v 0 +ℤ pos 0) (v 2 +ℤ pos 0)) _ None
-          (λ low. choose (λ end. Says end) (int_lt (v 2 +ℤ pos 0) (v 1 +ℤ (growth f.head.mode x +ℤ growth f.head.mode p))) _ None
+          (λ low. choose (λ end. Says end)
+          (int_lt (v 2 +ℤ pos 0) (v 1 +ℤ (growth f.head.mode x +ℤ growth f.head.mode p))) _ None
           (λ high. cells_say same (index_low (v 0) (v 2) z low) (index_high (v 2) _ _ left_length high))
           (λ out. agreed same (λ b lo hi. absurd (index_not_high (v 2) _ _ left_length out hi))))
           (λ under. agreed same (λ b lo hi. absurd (index_not_low (v 0) (v 2) z under lo)))
@@ -310,7 +325,8 @@ module _ (v : ℕ → ℤ) (f : Function) (x y : SymOp) (d : List Cell) (z : v 0
           (λ t. record {
             forms = forms;
             enabled = (hp, hq);
-            ends = λ one. false≢true (sym t ∙ (Decides-int_eq _ _).1 (cancel (v 1) _ _ _ _ left_length right_length one));
+            ends =
+                λ one. false≢true (sym t ∙ (Decides-int_eq _ _).1 (cancel (v 1) _ _ _ _ left_length right_length one));
           })
 
     -- both forms are tested, the left one first

@@ -1,6 +1,7 @@
 -- How TP1 fails at an instance: the causes exclude one another and agreement, and what the end of a plan
 -- says is a failure on a document that shows it.
-use Rattle.std.proofs.Common.{◌≡◌, ℕ, ℤ, pos, Option, Some, None, List, length, get_or, refl, ap, sym, ◌∙◌, subst, inl, inr, ◌⊎◌}
+use Rattle.std.proofs.Common.{◌≡◌, ℕ, ℤ, pos, Option, Some, None, List, length, get_or, refl, ap, sym, ◌∙◌, subst, inl}
+use Rattle.std.proofs.Common.{inr, ◌⊎◌}
 use Rattle.std.specs.Prelude.{slice_get, unwrap_or}
 use Rattle.std.proofs.lemmas.List.{same_lists}
 use Rattle.std.proofs.lemmas.Option.{unwrap_or-slice_get}
@@ -12,7 +13,8 @@ use Rattle.fn_rules.specs.Transformation.{transform_of, IsAllowed}
 use Rattle.fn_rules.specs.Properties.{ConvergesAt}
 use Rattle.ot_questions.specs.declared.why.Why.{Why}
 use Rattle.ot_questions.specs.declared.why.Why.TheVariants.{Undefined, OutOfRange, Lengths, Cells, Operations}
-use Rattle.ot_questions.specs.Instances.{Forms, AreEnabledBehind, after_two, EndWith, AgreeAt, cell_in, PairFails, ShowsCause, EndsBy}
+use Rattle.ot_questions.specs.Instances.{Forms, AreEnabledBehind, after_two, EndWith, AgreeAt, cell_in, PairFails}
+use Rattle.ot_questions.specs.Instances.{ShowsCause, EndsBy}
 use Rattle.ot_questions.proofs.TellingDocument.{telling, length-made, telling_tells}
 use Rattle.ot_questions.proofs.PairEnds.{PairSays}
 use Rattle.ot_questions.proofs.Answered.{Answered}
@@ -44,13 +46,20 @@ module _ (f : Function) (d : List Cell) (a b : Op) where
   -- TP1 at an instance is agreement at each index
   pub agrees_at_each : (i : ℤ) → ConvergesAt f d a b → EndWith f d a b (AgreeAt i)
   agrees_at_each i h = record {
-    forms = record { b_after_a = h.b_after_a; a_after_b = h.a_after_b; b_transformed = h.b_transformed; a_transformed = h.a_transformed };
+    forms = record {
+      b_after_a = h.b_after_a;
+      a_after_b = h.a_after_b;
+      b_transformed = h.b_transformed;
+      a_transformed = h.a_transformed;
+    };
     enabled = (h.b_enabled, h.a_enabled);
     ends = (ap length h.one_document, ap (λ e. cell_in e i) h.one_document);
   }
 
-  cell_got : (left right : List Cell) (k : ℕ) (x : Cell) → slice_get left k ≡ slice_get right k → get_or left k x ≡ get_or right k x
-  cell_got left right k x e = sym (unwrap_or-slice_get left k x) ∙ (ap (λ o. unwrap_or o x) e ∙ unwrap_or-slice_get right k x)
+  cell_got : (left right : List Cell) (k : ℕ) (x : Cell) → slice_get left k ≡ slice_get right k
+      → get_or left k x ≡ get_or right k x
+  cell_got left right k x e = sym (unwrap_or-slice_get left k x)
+      ∙ (ap (λ o. unwrap_or o x) e ∙ unwrap_or-slice_get right k x)
 
   -- where it ends in agreement at each index, both ways lead to one document
   pub converges_by_indices : ((i : ℤ) → EndWith f d a b (AgreeAt i)) → ConvergesAt f d a b

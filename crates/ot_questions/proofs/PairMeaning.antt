@@ -1,5 +1,6 @@
 -- The plan of a pair means TP1 for its kinds.
-use Rattle.std.proofs.Common.{◌≡◌, ℕ, ℤ, pos, ◌+ℤ◌, true, int_le, Option, Some, None, List, [], ◌∷◌, length, refl, ap, sym, ◌∙◌, subst, inl, inr, ◌⊎◌}
+use Rattle.std.proofs.Common.{◌≡◌, ℕ, ℤ, pos, ◌+ℤ◌, true, int_le, Option, Some, None, List, [], ◌∷◌, length, refl, ap}
+use Rattle.std.proofs.Common.{sym, ◌∙◌, subst, inl, inr, ◌⊎◌}
 use Rattle.std.specs.List.{AllByRecursion, Contains}
 use Rattle.std.proofs.lemmas.Bool.{false≢true}
 use Rattle.ot_model.specs.declared.cell.Cell.{Cell}
@@ -29,7 +30,8 @@ use Rattle.ot_questions.proofs.Values.{sym_allowed}
 use Rattle.ot_questions.proofs.Operations.{IsCounted}
 use Rattle.ot_questions.proofs.Standing.{counted_by_standing, op_at-standing, standing-op_at, standing-named}
 use Rattle.ot_questions.proofs.Laws.{plan_kept}
-use Rattle.ot_questions.proofs.Instances.{valued, kind_of-op_at-sym_op, raised, enough, counted_raised, end-raised, none_from_value, value_from_none}
+use Rattle.ot_questions.proofs.Instances.{valued, kind_of-op_at-sym_op, raised, enough, counted_raised, end-raised}
+use Rattle.ot_questions.proofs.Instances.{none_from_value, value_from_none}
 use Rattle.ot_questions.proofs.Pairs.{all_enabled, end-pair}
 use Rattle.ot_questions.proofs.PairEnds.{PairSays, converge_says}
 use Rattle.ot_questions.proofs.Answered.{Answered, begins_answered, Decides-all_enabled, Decides-allowed, length_test}
@@ -39,16 +41,18 @@ use Rattle.ot_questions.proofs.Lengths.{from_each_length, at_each_length}
 
 -- what the plan of a pair says of the operations at the valuation
 answered_at :
-    (v : ℕ → ℤ) (f : Function) (x y : SymOp) (d : List Cell) → v 0 ≡ pos 0 → v 1 ≡ pos (length d) → IsCounted v x → IsCounted v y
-    → Answered (PairPosed f (length d) (op_at v x) (op_at v y)) (PairSays f d (op_at v x) (op_at v y) (v 2)) (end_of (ask_pair f x y) v)
+    (v : ℕ → ℤ) (f : Function) (x y : SymOp) (d : List Cell) → v 0 ≡ pos 0 → v 1 ≡ pos (length d)
+    → IsCounted v x → IsCounted v y
+    → Answered (PairPosed f (length d) (op_at v x) (op_at v y)) (PairSays f d (op_at v x) (op_at v y) (v 2))
+    (end_of (ask_pair f x y) v)
 answered_at v f x y d z e cx cy =
     let enabled = Decides-all_enabled v (length d) e (x ∷ y ∷ []) in
     let allowed = Decides-allowed v f x y cx cy in
-    subst (λ end. Answered (PairPosed f (length d) (op_at v x) (op_at v y)) (PairSays f d (op_at v x) (op_at v y) (v 2)) end)
-    (sym (end-pair v f x y z))
+    subst (λ end. Answered (PairPosed f (length d) (op_at v x) (op_at v y)) (PairSays f d (op_at v x) (op_at v y) (v 2))
+    end) (sym (end-pair v f x y z))
     (begins_answered (PairPosed f (length d) (op_at v x) (op_at v y)) (PairSays f d (op_at v x) (op_at v y) (v 2))
-    (int_le (v 0 +ℤ pos 0) (v 1 +ℤ pos 0)) (all_enabled v (x ∷ y ∷ [])) (sym_allowed v f.head x y) (end_of (ask_converge f x y) v)
-    (length_test v (length d) z e)
+    (int_le (v 0 +ℤ pos 0) (v 1 +ℤ pos 0)) (all_enabled v (x ∷ y ∷ [])) (sym_allowed v f.head x y)
+    (end_of (ask_converge f x y) v) (length_test v (length d) z e)
     (λ en al.
     let both = enabled.0 en in
     ((both.0, both.1.0, allowed.0 al), converge_says v f x y d z e cx cy both.0 both.1.0))
@@ -56,19 +60,19 @@ answered_at v f x y d z e cx cy =
 
 -- and so of any operations that the names stand for
 pub pair_answered :
-    (f : Function) (x y : SymOp) (v : ℕ → ℤ) (d : List Cell) (a b : Op) → v 0 ≡ pos 0 → v 1 ≡ pos (length d) → StandsForOperation v x
-    a → StandsForOperation v y b
+    (f : Function) (x y : SymOp) (v : ℕ → ℤ) (d : List Cell) (a b : Op) → v 0 ≡ pos 0 → v 1 ≡ pos (length d)
+    → StandsForOperation v x a → StandsForOperation v y b
     → Answered (PairPosed f (length d) a b) (PairSays f d a b (v 2)) (end_of (ask_pair f x y) v)
 pair_answered f x y v d a b z e sx sy =
-    subst (λ o. Answered (PairPosed f (length d) o b) (PairSays f d o b (v 2)) (end_of (ask_pair f x y) v)) (op_at-standing v x a z sx)
-    (subst (λ o. Answered (PairPosed f (length d) (op_at v x) o) (PairSays f d (op_at v x) o (v 2)) (end_of (ask_pair f x y) v))
-    (op_at-standing v y b z sy)
+    subst (λ o. Answered (PairPosed f (length d) o b) (PairSays f d o b (v 2)) (end_of (ask_pair f x y) v))
+    (op_at-standing v x a z sx) (subst (λ o. Answered (PairPosed f (length d) (op_at v x) o)
+    (PairSays f d (op_at v x) o (v 2)) (end_of (ask_pair f x y) v)) (op_at-standing v y b z sy)
     (answered_at v f x y d z e (counted_by_standing v x a sx) (counted_by_standing v y b sy)))
 
 -- where the plan holds, both ways agree at the index
 pub pair_agrees :
-    (f : Function) (x y : SymOp) (v : ℕ → ℤ) (d : List Cell) (a b : Op) → v 0 ≡ pos 0 → v 1 ≡ pos (length d) → StandsForOperation v x
-    a → StandsForOperation v y b
+    (f : Function) (x y : SymOp) (v : ℕ → ℤ) (d : List Cell) (a b : Op) → v 0 ≡ pos 0 → v 1 ≡ pos (length d)
+    → StandsForOperation v x a → StandsForOperation v y b
     → end_of (ask_pair f x y) v ≡ None → PairPosed f (length d) a b → EndWith f d a b (AgreeAt (v 2))
 pair_agrees f x y v d a b z e sx sy h posed =
     elim (pair_answered f x y v d a b z e sx sy) [
@@ -78,8 +82,10 @@ pair_agrees f x y v d a b z e sx sy h posed =
 
 -- where both ways agree at the index on every document of the length, the plan holds
 pub pair_none :
-    (f : Function) (x y : SymOp) (v : ℕ → ℤ) (n : ℕ) (a b : Op) → v 0 ≡ pos 0 → v 1 ≡ pos n → StandsForOperation v x a → StandsForOperation v y b
-    → ((d : List Cell) → length d ≡ n → PairPosed f n a b → EndWith f d a b (AgreeAt (v 2))) → end_of (ask_pair f x y) v ≡ None
+    (f : Function) (x y : SymOp) (v : ℕ → ℤ) (n : ℕ) (a b : Op) → v 0 ≡ pos 0 → v 1 ≡ pos n → StandsForOperation v x a
+    → StandsForOperation v y b
+    → ((d : List Cell) → length d ≡ n → PairPosed f n a b → EndWith f d a b (AgreeAt (v 2)))
+    → end_of (ask_pair f x y) v ≡ None
 pair_none f x y v n a b z e sx sy agrees =
     no_cause_left f n a b (v 2) (end_of (ask_pair f x y) v)
     (λ d len.
@@ -99,7 +105,8 @@ pair_holds_means f k l n holds d a b len ka kb ea eb ok =
     (subst (λ m. IsEnabled a m) (sym len) ea, subst (λ m. IsEnabled b m) (sym len) eb, ok))
 
 -- Sites and characters are raised until they are natural numbers, which changes no answer.
-pub pair_meaning_holds : (f : Function) (k l : Kind) (n : ℕ) → is_valid f ≡ true → HasPair f k l n → HoldsAtLength f (Pair k l) n
+pub pair_meaning_holds : (f : Function) (k l : Kind) (n : ℕ) → is_valid f ≡ true → HasPair f k l n
+    → HoldsAtLength f (Pair k l) n
 unfolding plan_of
 pair_meaning_holds f k l n valid has v z e =
     let s = enough v site_name in
@@ -111,17 +118,20 @@ pair_meaning_holds f k l n valid has v z e =
     value_from_none (end_of (ask_pair f (sym_op k A) (sym_op l B)) v)
     (sym (end-raised 9 v s c (ask_pair f (sym_op k A) (sym_op l B)) (plan_kept f (Pair k l) valid).asked)
     ∙ pair_none f (sym_op k A) (sym_op l B) w n a b zero (plus-zero (v 1) ∙ e)
-    (standing-op_at w (sym_op k A) zero (counted_raised v k A)) (standing-op_at w (sym_op l B) zero (counted_raised v l B))
+    (standing-op_at w (sym_op k A) zero (counted_raised v k A))
+    (standing-op_at w (sym_op l B) zero (counted_raised v l B))
     (λ d len posed.
     agrees_at_each f d a b (w 2)
     (has d a b len (kind_of-op_at-sym_op w k A) (kind_of-op_at-sym_op w l B) posed.0 posed.1 posed.2)))
 
 -- a declared kind
-pub declared_kind : (head : Head) (o : Option Kind) → HasDeclaredKind head o → (k : Kind) × (o ≡ Some k) × (is_declared head k ≡ true)
+pub declared_kind : (head : Head) (o : Option Kind) → HasDeclaredKind head o
+    → (k : Kind) × (o ≡ Some k) × (is_declared head k ≡ true)
 declared_kind head None h = absurd (false≢true h)
 declared_kind head (Some k) h = (k, refl, h)
 
-pub declared_from : (head : Head) (o : Option Kind) (k : Kind) → o ≡ Some k → is_declared head k ≡ true → HasDeclaredKind head o
+pub declared_from : (head : Head) (o : Option Kind) (k : Kind) → o ≡ Some k
+    → is_declared head k ≡ true → HasDeclaredKind head o
 declared_from head o k e h = subst (λ x. HasDeclaredKind head x) (sym e) h
 
 -- Why pairs of kinds are enough, as TP1 does not depend on the order of two operations: nor does with whom

@@ -1,5 +1,6 @@
 -- Where the plan of a pair ends at a valuation, for a caller with a document in hand.
-use Rattle.std.proofs.Common.{◌≡◌, ℕ, ℤ, ◌+ℤ◌, true, Option, Some, None, List, [], ◌∷◌, length, refl, sym, ◌∙◌, subst, inl, inr, ◌⊎◌}
+use Rattle.std.proofs.Common.{◌≡◌, ℕ, ℤ, ◌+ℤ◌, true, Option, Some, None, List, [], ◌∷◌, length, refl, sym, ◌∙◌, subst}
+use Rattle.std.proofs.Common.{inl, inr, ◌⊎◌}
 use Rattle.std.specs.Prelude.{◌↔◌, IsSome}
 use Rattle.std.proofs.lemmas.Bool.{and_parts}
 use Rattle.ot_model.specs.declared.cell.Cell.{Cell}
@@ -18,7 +19,8 @@ use Rattle.ot_questions.specs.declared.why.Why.TheVariants.{Cells}
 use Rattle.ot_questions.specs.Names.{index_name}
 use Rattle.ot_questions.specs.Places.{sym_op, sym_kind}
 use Rattle.ot_questions.specs.Obligation.{plan_of}
-use Rattle.ot_questions.specs.Instances.{StandsForOperation, NamesPair, EndWith, AgreeAt, cell_in, PairFails, ShowsCause, EndsBy}
+use Rattle.ot_questions.specs.Instances.{StandsForOperation, NamesPair, EndWith, AgreeAt, cell_in, PairFails}
+use Rattle.ot_questions.specs.Instances.{ShowsCause, EndsBy}
 use Rattle.ot_questions.proofs.PairEnds.{PairSays}
 use Rattle.ot_questions.proofs.Answered.{Answered}
 use Rattle.ot_questions.proofs.PairFailures.{PairPosed, says_fails, one_cause}
@@ -31,9 +33,11 @@ sym_kind-sym_op kinds.Upd who = refl
 
 -- an operation that the names of a declared kind stand for is of a declared kind
 pub declared_by_standing :
-    (f : Function) (v : ℕ → ℤ) (k : Kind) (who : Who) (a : Op) → is_declared f.head k ≡ true → StandsForOperation v (sym_op k who) a
+    (f : Function) (v : ℕ → ℤ) (k : Kind) (who : Who) (a : Op) → is_declared f.head k ≡ true
+    → StandsForOperation v (sym_op k who) a
     → HasDeclaredKind f.head (kind_of a)
-declared_by_standing f v k who a declared h = declared_from f.head (kind_of a) k (sym h.kind ∙ sym_kind-sym_op k who) declared
+declared_by_standing f v k who a declared h =
+    declared_from f.head (kind_of a) k (sym h.kind ∙ sym_kind-sym_op k who) declared
 
 module _ (f : Function) (k l : Kind) (v : ℕ → ℤ) (d : List Cell) (a b : Op) (h : NamesPair f k l v (length d) a b) where
   posed_from : AreConcurrent f d (a ∷ b ∷ []) → PairPosed f (length d) a b
@@ -52,7 +56,8 @@ module _ (f : Function) (k l : Kind) (v : ℕ → ℤ) (d : List Cell) (a b : Op
   unfolding plan_of
   answered = pair_answered f (sym_op k A) (sym_op l B) v d a b h.zero h.cells h.first h.second
 
-  cause : (why : Why) → end_of (plan_of f (Pair k l)) v ≡ Some why → PairPosed f (length d) a b × PairSays f d a b (v 2) (Some why)
+  cause : (why : Why) → end_of (plan_of f (Pair k l)) v ≡ Some why
+      → PairPosed f (length d) a b × PairSays f d a b (v 2) (Some why)
   cause why e =
       elim answered [
         | inl said ↦ (said.0, subst (λ end. PairSays f d a b (v 2) end) e said.1)
@@ -70,7 +75,8 @@ module _ (f : Function) (k l : Kind) (v : ℕ → ℤ) (d : List Cell) (a b : Op
   pair_read left dead off e named = (cause (Cells left dead) e).1.1 off named
 
   pub pair_ends :
-      (why : Why) → AreConcurrent f d (a ∷ b ∷ []) → PairFails f d a b (v index_name) why → EndsBy why (end_of (plan_of f (Pair k l)) v)
+      (why : Why) → AreConcurrent f d (a ∷ b ∷ []) → PairFails f d a b (v index_name) why
+      → EndsBy why (end_of (plan_of f (Pair k l)) v)
   pair_ends why concurrent fails =
       elim answered [
         | inl said ↦ one_cause f d a b (v 2) why (end_of (plan_of f (Pair k l)) v) fails said.1

@@ -21,7 +21,8 @@ use Rattle.ot_questions.specs.Questions.{ask_le, ask_guard, ask_result, ask_enab
 use Rattle.ot_questions.proofs.Found.{AsksOfKnown}
 use Rattle.ot_questions.proofs.Laws.{blocks_within, fine_questions}
 use Rattle.ot_questions.proofs.AskedLaws.{like_questions}
-use Rattle.ot_questions.proofs.Walks.{IsWalked, walk_le, walk_guard, walk_result, walk_enabled, walk_allowed, walk_same_form}
+use Rattle.ot_questions.proofs.Walks.{IsWalked, walk_le, walk_guard, walk_result, walk_enabled, walk_allowed}
+use Rattle.ot_questions.proofs.Walks.{walk_same_form}
 
 -- where every name is known
 abbrev all_known : ℕ → Bool
@@ -57,7 +58,8 @@ module _ (count : ℕ) (names : 2 < count) where
   length_below = omega arith
 
   pub kept_comparison :
-      (m : ℕ) (sort : Sort) (a b : Place) (p q : Plan Why) → PlaceStands (IsBelow count) 500 sort a → PlaceStands (IsBelow count) 500 sort b
+      (m : ℕ) (sort : Sort) (a b : Place) (p q : Plan Why) → PlaceStands (IsBelow count) 500 sort a
+      → PlaceStands (IsBelow count) 500 sort b
       → IsKept count m p → IsKept count m q → IsKept count (m + 1) (ask_le a b p q)
   kept_comparison m sort a b p q ha hb hp hq =
       (walk_le count all_known (IsBelow count) (below count) (known count) zero_below length_below m sort a b p q ha hb
@@ -68,8 +70,8 @@ module _ (count : ℕ) (names : 2 < count) where
       → OpStands (IsBelow count) 200 a → OpStands (IsBelow count) 200 b → has_valid_atoms (compares_chars k l) g ≡ true
       → IsKept count m p → IsKept count m q → IsKept count (m + 2 * guard_atoms g) (ask_guard g a b p q)
   kept_guard m k l g a b p q ea eb ha hb valid hp hq =
-      (walk_guard count all_known (IsBelow count) (below count) (known count) zero_below length_below k l a b ea eb ha hb m g p q valid
-      (walked count m p hp) (walked count m q hq)).kept
+      (walk_guard count all_known (IsBelow count) (below count) (known count) zero_below length_below k l a b ea eb ha
+      hb m g p q valid (walked count m p hp) (walked count m q hq)).kept
 
   pub kept_result :
       (m n : ℕ) (f : Function) (a b : SymOp) (go : Option SymOp → Plan Why) → is_valid f ≡ true → n ≤ 200
@@ -77,25 +79,27 @@ module _ (count : ℕ) (names : 2 < count) where
       → ((r : SymOp) → OpStands (IsBelow count) (n + 99) r → IsKept count m (go (Some r)))
       → IsKept count (m + 2 * function_atoms f) (ask_result f a b go)
   kept_result m n f a b go valid few ha hb none goes =
-      (walk_result count all_known (IsBelow count) (below count) (known count) zero_below length_below f valid (function_atoms f)
-      (blocks_within f) m n a b go few ha hb
+      (walk_result count all_known (IsBelow count) (below count) (known count) zero_below length_below f valid
+      (function_atoms f) (blocks_within f) m n a b go few ha hb
       (walked count m (go None) none, λ r hr. walked count m (go (Some r)) (goes r hr))).kept
 
   pub kept_enabled :
       (m : ℕ) (a : SymOp) (off : ℤ) (p q : Plan Why) → IsNear 499 off → OpStands (IsBelow count) 499 a
       → IsKept count m p → IsKept count m q → IsKept count (m + 2) (ask_enabled a off p q)
   kept_enabled m a off p q near ha hp hq =
-      (walk_enabled count all_known (IsBelow count) (below count) (known count) zero_below length_below m a off p q near ha
-      (walked count m p hp) (walked count m q hq)).kept
+      (walk_enabled count all_known (IsBelow count) (below count) (known count) zero_below length_below m a off p q near
+      ha (walked count m p hp) (walked count m q hq)).kept
 
   pub kept_allowed :
       (m n : ℕ) (head : Head) (a b : SymOp) (p : Plan Why) → OpStands (IsBelow count) n a → OpStands (IsBelow count) n b
       → IsKept count m p → IsKept count (m + 4) (ask_allowed head a b p)
   kept_allowed m n head a b p ha hb hp =
-      (walk_allowed count all_known (IsBelow count) (below count) (known count) zero_below length_below m n head a b p ha hb
-      (walked count m p hp)).kept
+      (walk_allowed count all_known (IsBelow count) (below count) (known count) zero_below length_below m n head a b p
+      ha hb (walked count m p hp)).kept
 
   pub kept_same_form :
-      (a b : SymOp) → OpStands (IsBelow count) 500 a → OpStands (IsBelow count) 500 b → IsKept count 2 (ask_same_form a b)
+      (a b : SymOp) → OpStands (IsBelow count) 500 a → OpStands (IsBelow count) 500 b
+      → IsKept count 2 (ask_same_form a b)
   kept_same_form a b ha hb =
-      (walk_same_form count all_known (IsBelow count) (below count) (known count) zero_below length_below a b ha hb).kept
+      (walk_same_form count all_known (IsBelow count) (below count) (known count) zero_below
+      length_below a b ha hb).kept

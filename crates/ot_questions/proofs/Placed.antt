@@ -1,6 +1,7 @@
 -- Places of one sort: positions (with zero, the length and the index), sites, or characters. Each name may
 -- be used, each offset is small, and a transformation keeps that.
-use Rattle.std.proofs.Common.{◌≡◌, ℕ, ◌+◌, ◌≤◌, ℤ, pos, ◌+ℤ◌, Bool, true, Option, Some, List, [], ◌∷◌, refl, ap, sym, ◌∙◌, subst, arith}
+use Rattle.std.proofs.Common.{◌≡◌, ℕ, ◌+◌, ◌≤◌, ℤ, pos, ◌+ℤ◌, Bool, true, Option, Some, List, [], ◌∷◌, refl, ap, sym}
+use Rattle.std.proofs.Common.{◌∙◌, subst, arith}
 use Rattle.std.specs.Ordering.{int_eq}
 use Rattle.std.specs.List.{AllByRecursion}
 use Rattle.std.proofs.lemmas.Bool.{and_parts, false≢true}
@@ -24,7 +25,8 @@ use Rattle.ot_questions.specs.Names.{position_name, site_name, char_name}
 use Rattle.ot_questions.specs.Nears.{IsNear}
 use Rattle.ot_questions.specs.Sorts.{sort_name}
 use Rattle.ot_questions.specs.Asked.{IsSteady, PlaceStands, OpStands}
-use Rattle.ot_questions.specs.Places.{place, plus, sym_op, sym_at, sym_kind, sym_site, sym_char, sym_placed, sym_result, sym_thing, place_of_name}
+use Rattle.ot_questions.specs.Places.{place, plus, sym_op, sym_at, sym_kind, sym_site, sym_char, sym_placed, sym_result}
+use Rattle.ot_questions.specs.Places.{sym_thing, place_of_name}
 use Rattle.ot_questions.proofs.Nears.{IsNear-more, IsNear-plus, IsNear-zero, IsNear-res}
 
 pub position_sort : (who : Who) → sort_name (position_name who) ≡ Pos
@@ -93,17 +95,25 @@ steady-offset chars Site k e = (Decides-int_eq k (pos 0)).0 e
 steady-offset chars Char k e = (Decides-int_eq k (pos 0)).0 (and_parts chars (int_eq k (pos 0)) e).1
 
 module _ (Free : ℕ → Type 0) where
-  pub PlaceStands-more : (m n : ℕ) (sort : Sort) (p : Place) → m ≤ n → PlaceStands Free m sort p → PlaceStands Free n sort p
-  PlaceStands-more m n sort p h g = record { is = g.is; free = g.free; steady = g.steady; near = IsNear-more m n p.off h g.near }
+  pub PlaceStands-more : (m n : ℕ) (sort : Sort) (p : Place) → m ≤ n → PlaceStands Free m sort p
+      → PlaceStands Free n sort p
+  PlaceStands-more m n sort p h g =
+      record { is = g.is; free = g.free; steady = g.steady; near = IsNear-more m n p.off h g.near }
 
   pub PlaceStands-plus :
       (m n : ℕ) (sort : Sort) (p : Place) (off : ℤ) → PlaceStands Free m sort p → IsSteady sort off → IsNear n off
       → PlaceStands Free (m + n) sort (plus p off)
   PlaceStands-plus m n sort p off g still h =
-      record { is = g.is; free = g.free; steady = steady-plus sort p.off off g.steady still; near = IsNear-plus m n p.off off g.near h }
+      record {
+        is = g.is;
+        free = g.free;
+        steady = steady-plus sort p.off off g.steady still;
+        near = IsNear-plus m n p.off off g.near h;
+      }
 
   -- a name itself has no offset
-  pub PlaceStands-name : (m n : ℕ) (sort : Sort) (x : ℕ) → PlaceStands Free m sort (place x (pos 0)) → PlaceStands Free n sort (place x (pos 0))
+  pub PlaceStands-name : (m n : ℕ) (sort : Sort) (x : ℕ) → PlaceStands Free m sort (place x (pos 0))
+      → PlaceStands Free n sort (place x (pos 0))
   PlaceStands-name m n sort x h = record { is = h.is; free = h.free; steady = steady-zero sort; near = IsNear-zero n }
 
   pub OpStands-more : (m n : ℕ) (o : SymOp) → m ≤ n → OpStands Free m o → OpStands Free n o
@@ -118,7 +128,8 @@ module _ (Free : ℕ → Type 0) where
       → PlaceStands Free n sort (place_of_name o)
   PlaceStands-some n sort o x e h = subst (λ r. PlaceStands Free n sort (place_of_name r)) (sym e) h
 
-  pub PlaceStands-thing : (n : ℕ) (sort : Sort) (o : SymOp) → OpStands Free n o → HasThing sort o → PlaceStands Free n sort (sym_thing sort o)
+  pub PlaceStands-thing : (n : ℕ) (sort : Sort) (o : SymOp) → OpStands Free n o → HasThing sort o
+      → PlaceStands Free n sort (sym_thing sort o)
   PlaceStands-thing n Pos o h there = h.at
   PlaceStands-thing n Site o h there = PlaceStands-some n Site (sym_site o) there.0 there.1 (h.site there.0 there.1)
   PlaceStands-thing n Char o h there = PlaceStands-some n Char (sym_char o) there.0 there.1 (h.ch there.0 there.1)
@@ -132,13 +143,22 @@ module _ (Free : ℕ → Type 0) where
 
   -- an operation that stands, at another place that does
   OpStands-placed :
-      (n m : ℕ) (o : SymOp) (p : Place) → Free 0 → OpStands Free n o → PlaceStands Free m Pos p → OpStands Free m (sym_placed o p)
+      (n m : ℕ) (o : SymOp) (p : Place) → Free 0 → OpStands Free n o → PlaceStands Free m Pos p
+      → OpStands Free m (sym_placed o p)
   OpStands-placed n m (Ins q c s) p low h g =
-      record { at = g; site = λ t e. PlaceStands-name n m Site t (h.site t e); ch = λ t e. PlaceStands-name n m Char t (h.ch t e) }
+      record {
+        at = g;
+        site = λ t e. PlaceStands-name n m Site t (h.site t e);
+        ch = λ t e. PlaceStands-name n m Char t (h.ch t e);
+      }
   OpStands-placed n m (Del q s) p low h g =
       record { at = g; site = λ t e. PlaceStands-name n m Site t (h.site t e); ch = λ t e. absurd (cc) }
   OpStands-placed n m (Upd q c s) p low h g =
-      record { at = g; site = λ t e. PlaceStands-name n m Site t (h.site t e); ch = λ t e. PlaceStands-name n m Char t (h.ch t e) }
+      record {
+        at = g;
+        site = λ t e. PlaceStands-name n m Site t (h.site t e);
+        ch = λ t e. PlaceStands-name n m Char t (h.ch t e);
+      }
   OpStands-placed n m Nop p low h g = OpStands-nop m low
 
   pub OpStands-result :
@@ -155,7 +175,8 @@ module _ (Free : ℕ → Type 0) where
   name_stands : (sort : Sort) (x : ℕ) → sort_name x ≡ sort → Free x → PlaceStands Free 0 sort (place x (pos 0))
   name_stands sort x e h = record { is = e; free = h; steady = steady-zero sort; near = IsNear-zero 0 }
 
-  name_of : (sort : Sort) (x y : ℕ) → Some x ≡ Some y → PlaceStands Free 0 sort (place x (pos 0)) → PlaceStands Free 0 sort (place y (pos 0))
+  name_of : (sort : Sort) (x y : ℕ) → Some x ≡ Some y → PlaceStands Free 0 sort (place x (pos 0))
+      → PlaceStands Free 0 sort (place y (pos 0))
   name_of sort x y e h = subst (λ z. PlaceStands Free 0 sort (place z (pos 0))) (some_equal x y e) h
 
   -- the operations of an obligation
@@ -190,6 +211,7 @@ module _ (Free Freer : ℕ → Type 0) (more : (x : ℕ) → Free x → Freer x)
     ch = λ c e. PlaceStands-freer n Char (place c (pos 0)) (h.ch c e);
   }
 
-  pub AllStand-freer : (n : ℕ) (os : List SymOp) → AllByRecursion (OpStands Free n) os → AllByRecursion (OpStands Freer n) os
+  pub AllStand-freer : (n : ℕ) (os : List SymOp) → AllByRecursion (OpStands Free n) os
+      → AllByRecursion (OpStands Freer n) os
   AllStand-freer n [] h = tt
   AllStand-freer n (o ∷ os) h = (OpStands-freer n o h.0, AllStand-freer n os h.1)

@@ -35,7 +35,8 @@ source_means v g (Base j) (Named d) why e = absurd (cc)
 source_means v g (Named c) (Base k) why e = absurd (cc)
 source_means v g (Named c) (Named d) why e =
     elim (cases_Bool (int_eq (v c +ℤ pos 0) (v d +ℤ pos 0))) [
-      | inl same ↦ ap unsigned_abs (sym (plus-zero (v c)) ∙ ((Decides-int_eq (v c +ℤ pos 0) (v d +ℤ pos 0)).0 same ∙ plus-zero (v d)))
+      | inl same ↦ ap unsigned_abs (sym (plus-zero (v c))
+          ∙ ((Decides-int_eq (v c +ℤ pos 0) (v d +ℤ pos 0)).0 same ∙ plus-zero (v d)))
       | inr other ↦
           (let tested = sym (end-eq (place c (pos 0)) (place d (pos 0)) Holds (Fails why) v) ∙ e in
           let wrong : Some why ≡ None = rw other at tested in absurd (cc))
@@ -55,7 +56,8 @@ flag_means v g (From j) (From k) e = ap (λ i. (g (v 2 +ℤ i)).live) ((Decides-
 cells_equal : (c d : ℕ) (l m : Bool) → c ≡ d → l ≡ m → cell_of c l ≡ cell_of d m
 cells_equal c d l m e h = ap (λ x. cell_of x l) e ∙ ap (λ y. cell_of d y) h
 
-pub found_same : (v : ℕ → ℤ) (g : ℤ → Cell) (x y : Finished) → end_of (ask_same x y) v ≡ None → meant v g x ≡ meant v g y
+pub found_same : (v : ℕ → ℤ) (g : ℤ → Cell) (x y : Finished) → end_of (ask_same x y) v ≡ None
+    → meant v g x ≡ meant v g y
 unfolding ask_same
 found_same v g x y e =
     elim (cases_Bool (is_same_flag x.flag y.flag)) [

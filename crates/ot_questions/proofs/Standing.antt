@@ -16,10 +16,12 @@ use Rattle.ot_questions.specs.Places.{sym_op, sym_site, sym_char}
 use Rattle.ot_questions.specs.Meaning.{op_at}
 use Rattle.ot_questions.specs.Instances.{StandsForOperation}
 use Rattle.ot_questions.proofs.Tests.{plus-zero}
-use Rattle.ot_questions.proofs.Operations.{IsCount, IsCounted, IsCountedName, named, at_of-op_at, kind_of-op_at, site_of-op_at, char_of-op_at}
+use Rattle.ot_questions.proofs.Operations.{IsCount, IsCounted, IsCountedName, named, at_of-op_at, kind_of-op_at}
+use Rattle.ot_questions.proofs.Operations.{site_of-op_at, char_of-op_at}
 
 -- the parts make the operation
-pub by_parts : (a b : Op) → kind_of a ≡ kind_of b → at_of a ≡ at_of b → site_of a ≡ site_of b → char_of a ≡ char_of b → a ≡ b
+pub by_parts : (a b : Op) → kind_of a ≡ kind_of b → at_of a ≡ at_of b → site_of a ≡ site_of b
+    → char_of a ≡ char_of b → a ≡ b
 by_parts (ops.Ins at ch site) (ops.Ins to other from) k e f g = cc
 by_parts (ops.Del at site) (ops.Del to from) k e f g = cc
 by_parts (ops.Upd at ch site) (ops.Upd to other from) k e f g = cc

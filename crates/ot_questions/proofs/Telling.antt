@@ -1,8 +1,8 @@
 -- Documents that tell apart: on one of them two cells that were read have one meaning only where they are
 -- found the same. A base cell that was read and differs from the other cell shows it by its character, a half
 -- cell by its flag.
-use Rattle.std.proofs.Common.{◌≡◌, ◌≢◌, ℕ, length, ℤ, pos, negsuc, ◌+ℤ◌, Bool, true, false, if◌then◌else◌, get_or, Option, Some, None, List, refl, ap, sym, ◌∙◌}
-use Rattle.std.proofs.Common.{inl, inr, ◌⊎◌, arith}
+use Rattle.std.proofs.Common.{◌≡◌, ◌≢◌, ℕ, length, ℤ, pos, negsuc, ◌+ℤ◌, Bool, true, false, if◌then◌else◌, get_or}
+use Rattle.std.proofs.Common.{Option, Some, None, List, refl, ap, sym, ◌∙◌, inl, inr, ◌⊎◌, arith}
 use Rattle.std.specs.Prelude.{unsigned_abs}
 use Rattle.std.specs.Ordering.{int_eq}
 use Rattle.std.proofs.lemmas.Bool.{cases_lt, cases_Bool, false≢true}
@@ -19,7 +19,8 @@ use Rattle.ot_questions.specs.declared.cell.Flag.TheVariants.{Live, Dead, From}
 use Rattle.ot_questions.specs.declared.cell.Finished.{Finished}
 use Rattle.ot_questions.specs.declared.why.Why.{Why}
 use Rattle.ot_questions.specs.Places.{place}
-use Rattle.ot_questions.specs.Reading.{is_same_flag, ask_same_source, ask_same, base_of_flag, base_read, dead_of_half, dead_read, cells_cause}
+use Rattle.ot_questions.specs.Reading.{is_same_flag, ask_same_source, ask_same, base_of_flag, base_read, dead_of_half}
+use Rattle.ot_questions.specs.Reading.{dead_read, cells_cause}
 use Rattle.ot_questions.specs.Instances.{cell_in}
 use Rattle.ot_questions.proofs.Values.{end-eq, by_test}
 use Rattle.ot_questions.proofs.Operations.{IsCount}
@@ -61,7 +62,8 @@ pub told_source :
 told_source v d (Base k) fresh inside = inside k refl
 told_source v d (Named c) fresh inside = fresh
 
-pub told_flag : (v : ℕ → ℤ) (d : List Cell) (flag : Flag) → ((k : ℤ) → flag ≡ From k → HasCell d (v 2 +ℤ k)) → IsToldFlag v d flag
+pub told_flag : (v : ℕ → ℤ) (d : List Cell) (flag : Flag)
+    → ((k : ℤ) → flag ≡ From k → HasCell d (v 2 +ℤ k)) → IsToldFlag v d flag
 told_flag v d Live inside = tt
 told_flag v d Dead inside = tt
 told_flag v d (From k) inside = inside k refl
@@ -117,7 +119,8 @@ within_by_blanks part x y apart d (pos t) free =
     elim (cases_lt t (length d)) [
       | inl lt ↦ (get_or d t x, slice_get-get_or d t x lt)
       | inr past ↦
-          absurd (apart (sym (ap part (get_or_past d t x (omega arith))) ∙ (free x y ∙ ap part (get_or_past d t y (omega arith)))))
+          absurd (apart (sym (ap part (get_or_past d t x (omega arith)))
+          ∙ (free x y ∙ ap part (get_or_past d t y (omega arith)))))
     ]
 
 -- a plan of cells that are compared ends in none or in the cause
@@ -134,8 +137,10 @@ same_source_ends v (Base j) (Named d) why = inr refl
 same_source_ends v (Named c) (Base k) why = inr refl
 same_source_ends v (Named c) (Named d) why =
     elim (cases_Bool (int_eq (v c +ℤ pos 0) (v d +ℤ pos 0))) [
-      | inl same ↦ inl (end-eq (place c (pos 0)) (place d (pos 0)) Holds (Fails why) v ∙ ap (λ t. by_test t Holds (Fails why) v) same)
-      | inr other ↦ inr (end-eq (place c (pos 0)) (place d (pos 0)) Holds (Fails why) v ∙ ap (λ t. by_test t Holds (Fails why) v) other)
+      | inl same ↦ inl (end-eq (place c (pos 0)) (place d (pos 0)) Holds (Fails why) v
+          ∙ ap (λ t. by_test t Holds (Fails why) v) same)
+      | inr other ↦ inr (end-eq (place c (pos 0)) (place d (pos 0)) Holds (Fails why) v
+          ∙ ap (λ t. by_test t Holds (Fails why) v) other)
     ]
 
 pub same_ends :
@@ -158,7 +163,8 @@ one_offset dead j k e h = cc
 
 -- in a document whose cells live, but for the one at the offset that is to be dead
 module _ (v : ℕ → ℤ) (d : List Cell) (b : Cell) (dead : Option ℤ)
-    (lives : (j : ℤ) (cell : Cell) → cell_in d j ≡ Some cell → ((k : ℤ) → dead ≡ Some k → j ≢ v 2 +ℤ k) → cell.live ≡ true)
+    (lives : (j : ℤ) (cell : Cell) → cell_in d j ≡ Some cell
+    → ((k : ℤ) → dead ≡ Some k → j ≢ v 2 +ℤ k) → cell.live ≡ true)
     (dies : (k : ℤ) (cell : Cell) → dead ≡ Some k → cell_in d (v 2 +ℤ k) ≡ Some cell → cell.live ≡ false) where
   base_lives : (k : ℤ) → ((m : ℤ) → dead ≡ Some m → k ≢ m) → HasCell d (v 2 +ℤ k) → (cell_at b d (v 2 +ℤ k)).live ≡ true
   base_lives k other has =
@@ -189,7 +195,8 @@ module _ (v : ℕ → ℤ) (d : List Cell) (b : Cell) (dead : Option ℤ)
   -- of two half cells with the flags of different base cells, that of the left one is dead and that of the
   -- right one lives
   half_flags :
-      (j k : ℤ) → int_eq j k ≡ false → dead ≡ (if int_eq j k then None else Some j) → HasCell d (v 2 +ℤ j) → HasCell d (v 2 +ℤ k)
+      (j k : ℤ) → int_eq j k ≡ false → dead ≡ (if int_eq j k then None else Some j)
+      → HasCell d (v 2 +ℤ j) → HasCell d (v 2 +ℤ k)
       → (cell_at b d (v 2 +ℤ j)).live ≡ (cell_at b d (v 2 +ℤ k)).live → ⊥
   half_flags j k other e tj tk same =
       let at_left : dead ≡ Some j = e ∙ ap (λ t. if t then None else Some j) other in
@@ -216,16 +223,19 @@ module _ (v : ℕ → ℤ) (d : List Cell) (b : Cell) (dead : Option ℤ)
       ]
 
   found :
-      (s t : Source) (l m : Flag) (why : Why) → is_same_flag l m ≡ true → end_of (ask_same_source s t (Fails why)) v ≡ None
+      (s t : Source) (l m : Flag) (why : Why) → is_same_flag l m ≡ true
+      → end_of (ask_same_source s t (Fails why)) v ≡ None
       → end_of (if is_same_flag l m then ask_same_source s t (Fails why) else Fails why) v ≡ None
   found s t l m why flags sources = rw flags sources
 
   -- cells that the document tells apart are found the same, where they mean the same
   told_apart :
-      (s t : Source) (l m : Flag) (why : Why) → dead ≡ dead_read s t l m → IsReadFlag s l → IsReadFlag t m → IsToldSource v d s
+      (s t : Source) (l m : Flag) (why : Why) → dead ≡ dead_read s t l m → IsReadFlag s l
+      → IsReadFlag t m → IsToldSource v d s
       → IsToldSource v d t → IsToldFlag v d l → IsToldFlag v d m
       → ((j k : ℤ) → s ≡ Base j → t ≡ Base k → (cell_at b d (v 2 +ℤ j)).ch ≡ (cell_at b d (v 2 +ℤ k)).ch → j ≡ k)
-      → source_meant v (cell_at b d) s ≡ source_meant v (cell_at b d) t → flag_meant v (cell_at b d) l ≡ flag_meant v (cell_at b d) m
+      → source_meant v (cell_at b d) s ≡ source_meant v (cell_at b d) t
+      → flag_meant v (cell_at b d) l ≡ flag_meant v (cell_at b d) m
       → end_of (if is_same_flag l m then ask_same_source s t (Fails why) else Fails why) v ≡ None
   unfolding ask_same_source
   told_apart (Base j) (Base k) l m why e hl hm tj tk fl fm alone chars flags =
@@ -245,9 +255,10 @@ module _ (v : ℕ → ℤ) (d : List Cell) (b : Cell) (dead : Option ℤ)
   -- where the left cell's base place has a character of its own, cells of one meaning are found the same
   pub told_same :
       (x y : Finished) → dead ≡ dead_read x.source y.source x.flag y.flag → IsTold v d x → IsTold v d y
-      → ((j k : ℤ) → x.source ≡ Base j → y.source ≡ Base k → (cell_at b d (v 2 +ℤ j)).ch ≡ (cell_at b d (v 2 +ℤ k)).ch → j ≡ k)
+      → ((j k : ℤ) → x.source ≡ Base j → y.source ≡ Base k
+      → (cell_at b d (v 2 +ℤ j)).ch ≡ (cell_at b d (v 2 +ℤ k)).ch → j ≡ k)
       → meant v (cell_at b d) x ≡ meant v (cell_at b d) y → end_of (ask_same x y) v ≡ None
   unfolding ask_same
   told_same x y e tx ty alone same =
-      told_apart x.source y.source x.flag y.flag (cells_cause x y) e tx.flag ty.flag tx.source ty.source tx.base ty.base alone
-      (ap (λ z. z.ch) same) (ap (λ z. z.live) same)
+      told_apart x.source y.source x.flag y.flag (cells_cause x y) e tx.flag ty.flag tx.source ty.source tx.base ty.base
+      alone (ap (λ z. z.ch) same) (ap (λ z. z.live) same)

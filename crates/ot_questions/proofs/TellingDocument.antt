@@ -1,7 +1,8 @@
 -- There is a document of each length that tells apart: two characters that no operation puts, one of them
 -- at one place alone, and live cells but for the one that is to be dead.
-use Rattle.std.proofs.Common.{◌≡◌, ◌≢◌, ℕ, zero, suc, ◌+◌, ◌<◌, ◌≤◌, ℤ, pos, negsuc, ◌+ℤ◌, Bool, true, false, not, if◌then◌else◌, Option, Some, None, List, []}
-use Rattle.std.proofs.Common.{◌∷◌, length, refl, ap, sym, ◌∙◌, inl, inr, arith}
+use Rattle.std.proofs.Common.{◌≡◌, ◌≢◌, ℕ, zero, suc, ◌+◌, ◌<◌, ◌≤◌, ℤ, pos, negsuc, ◌+ℤ◌, Bool, true, false, not}
+use Rattle.std.proofs.Common.{if◌then◌else◌, Option, Some, None, List, [], ◌∷◌, length, refl, ap, sym, ◌∙◌, inl, inr}
+use Rattle.std.proofs.Common.{arith}
 use Rattle.std.specs.Prelude.{slice_get, unwrap_or}
 use Rattle.std.specs.Ordering.{int_eq}
 use Rattle.std.proofs.lemmas.Bool.{cases_Bool}
@@ -25,7 +26,8 @@ slice_get-made zero h t cell e = absurd (cc)
 slice_get-made (suc n) h zero cell e = cc
 slice_get-made (suc n) h (suc t) cell e = slice_get-made n (λ u. h (suc u)) t cell e
 
-cell_in-made : (n : ℕ) (h : ℕ → Cell) (j : ℤ) (cell : Cell) → cell_in (made n h) j ≡ Some cell → (t : ℕ) × (j ≡ pos t) × (h t ≡ cell)
+cell_in-made : (n : ℕ) (h : ℕ → Cell) (j : ℤ) (cell : Cell) → cell_in (made n h) j ≡ Some cell
+    → (t : ℕ) × (j ≡ pos t) × (h t ≡ cell)
 cell_in-made n h (pos t) cell e = (t, refl, slice_get-made n h t cell e)
 cell_in-made n h (negsuc t) cell e = absurd (cc)
 
@@ -51,7 +53,8 @@ alone_by_char m false true e h = absurd (omega arith)
 alone_by_char m false false e h = h
 
 abbrev pub telling_cell : Op → Op → ℤ → Option ℤ → Option ℤ → ℕ → Cell
-telling_cell a b i left dead t = record { ch = one_of (fresh_for a b) (is_read i left t); live = not (is_read i dead t) }
+telling_cell a b i left dead t =
+    record { ch = one_of (fresh_for a b) (is_read i left t); live = not (is_read i dead t) }
 
 abbrev pub telling : ℕ → Op → Op → ℤ → Option ℤ → Option ℤ → List Cell
 telling n a b i left dead = made n (telling_cell a b i left dead)
@@ -68,13 +71,15 @@ fresh_second a b alone = let more = at_least (fresh_for a b) alone in omega arit
 
 read_there : (i k : ℤ) (read : Option ℤ) (t : ℕ) → read ≡ Some k → i +ℤ k ≡ pos t → is_read i read t ≡ true
 read_there i k None t r e = absurd (cc)
-read_there i k (Some j) t r e = let same : j ≡ k = cc in (Decides-int_eq (pos t) (i +ℤ j)).1 (sym (ap (λ o. i +ℤ o) same ∙ e))
+read_there i k (Some j) t r e = let same : j ≡ k = cc in
+    (Decides-int_eq (pos t) (i +ℤ j)).1 (sym (ap (λ o. i +ℤ o) same ∙ e))
 
 there_read : (i k : ℤ) (read : Option ℤ) (t : ℕ) → read ≡ Some k → is_read i read t ≡ true → pos t ≡ i +ℤ k
 there_read i k None t r e = absurd (cc)
 there_read i k (Some j) t r e = let same : j ≡ k = cc in (Decides-int_eq (pos t) (i +ℤ j)).0 e ∙ ap (λ o. i +ℤ o) same
 
-not_read_there : (i : ℤ) (read : Option ℤ) (t : ℕ) → ((k : ℤ) → read ≡ Some k → pos t ≢ i +ℤ k) → is_read i read t ≡ false
+not_read_there : (i : ℤ) (read : Option ℤ) (t : ℕ) → ((k : ℤ) → read ≡ Some k → pos t ≢ i +ℤ k)
+    → is_read i read t ≡ false
 not_read_there i None t apart = refl
 not_read_there i (Some k) t apart =
     elim (cases_Bool (int_eq (pos t) (i +ℤ k))) [
@@ -83,7 +88,8 @@ not_read_there i (Some k) t apart =
     ]
 
 -- the document that is made for this tells apart
-pub telling_tells : (n : ℕ) (a b : Op) (i : ℤ) (left dead : Option ℤ) → TellsApart (telling n a b i left dead) a b i left dead
+pub telling_tells : (n : ℕ) (a b : Op) (i : ℤ) (left dead : Option ℤ)
+    → TellsApart (telling n a b i left dead) a b i left dead
 telling_tells n a b i left dead = record {
   live = λ j cell here apart.
       let at = cell_in-made n (telling_cell a b i left dead) j cell here in

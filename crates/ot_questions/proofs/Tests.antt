@@ -1,6 +1,6 @@
 -- Tests of integers, and choices by tests.
-use Rattle.std.proofs.Common.{◌≡◌, ℤ, pos, negsuc, ◌+ℤ◌, ◌-ℤ◌, ◌≤ℤ◌, ◌<ℤ◌, Bool, true, false, not, ◌&&◌, ◌||◌, if◌then◌else◌, Option, int_le, int_lt, refl, ap}
-use Rattle.std.proofs.Common.{◌∙◌, Decides, arith}
+use Rattle.std.proofs.Common.{◌≡◌, ℤ, pos, negsuc, ◌+ℤ◌, ◌-ℤ◌, ◌≤ℤ◌, ◌<ℤ◌, Bool, true, false, not, ◌&&◌, ◌||◌}
+use Rattle.std.proofs.Common.{if◌then◌else◌, Option, int_le, int_lt, refl, ap, ◌∙◌, Decides, arith}
 use Rattle.std.specs.Ordering.{int_eq}
 use Rattle.std.proofs.lemmas.Bool.Decides.{same_from_decides, Decides-int_eq}
 use Rattle.std.proofs.lemmas.Int.{ints}
@@ -60,14 +60,16 @@ if_through g true x y = refl
 if_through g false x y = refl
 
 -- each is at most the other exactly where the two are equal
-pub if_eq : {X : Type 0} (x y : ℤ) (p q : X) → (if int_le x y then (if int_le y x then p else q) else q) ≡ (if int_eq x y then p else q)
+pub if_eq : {X : Type 0} (x y : ℤ) (p q : X)
+    → (if int_le x y then (if int_le y x then p else q) else q) ≡ (if int_eq x y then p else q)
 if_eq x y p q =
     if_and (int_le x y) (int_le y x) p q
     ∙ ap (λ b. if b then p else q)
-    (same_from_decides {P = x ≡ y} (int_le x y && int_le y x) (int_eq x y) (λ e. grind (arith, ints), λ h. grind (arith, ints))
-    (Decides-int_eq x y))
+    (same_from_decides {P = x ≡ y} (int_le x y && int_le y x) (int_eq x y)
+    (λ e. grind (arith, ints), λ h. grind (arith, ints)) (Decides-int_eq x y))
 
 -- what holds of both ends holds of the chosen one
-pub choose : (P : Option Why → Type 0) (b : Bool) (s t : Option Why) → (b ≡ true → P s) → (b ≡ false → P t) → P (if b then s else t)
+pub choose : (P : Option Why → Type 0) (b : Bool) (s t : Option Why) → (b ≡ true → P s)
+    → (b ≡ false → P t) → P (if b then s else t)
 choose P true s t h g = h refl
 choose P false s t h g = g refl

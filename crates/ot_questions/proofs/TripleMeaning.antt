@@ -1,5 +1,6 @@
 -- The plan of a triple means TP2 for its kinds.
-use Rattle.std.proofs.Common.{◌≡◌, ℕ, ℤ, pos, ◌+ℤ◌, true, int_le, Option, Some, None, [], ◌∷◌, length, refl, sym, ◌∙◌, subst, inl, inr, ◌⊎◌}
+use Rattle.std.proofs.Common.{◌≡◌, ℕ, ℤ, pos, ◌+ℤ◌, true, int_le, Option, Some, None, [], ◌∷◌, length, refl, sym, ◌∙◌}
+use Rattle.std.proofs.Common.{subst, inl, inr, ◌⊎◌}
 use Rattle.std.specs.List.{Contains}
 use Rattle.std.proofs.lemmas.Bool.Decides.{Decides-and}
 use Rattle.ot_model.specs.declared.op.Kind.{Kind}
@@ -26,15 +27,16 @@ use Rattle.ot_questions.proofs.Tests.{plus-zero}
 use Rattle.ot_questions.proofs.Operations.{IsCounted}
 use Rattle.ot_questions.proofs.Standing.{counted_by_standing, op_at-standing, standing-op_at, standing-named}
 use Rattle.ot_questions.proofs.Laws.{plan_kept}
-use Rattle.ot_questions.proofs.Instances.{valued, kind_of-op_at-sym_op, raised, enough, counted_raised, end-raised, none_from_value, value_from_none}
+use Rattle.ot_questions.proofs.Instances.{valued, kind_of-op_at-sym_op, raised, enough, counted_raised, end-raised}
+use Rattle.ot_questions.proofs.Instances.{none_from_value, value_from_none}
 use Rattle.ot_questions.proofs.Pairs.{all_enabled}
 use Rattle.ot_questions.proofs.Triples.{TripleSays, commute_says, all_allowed, end-triple, triple_fails_breaks}
 use Rattle.ot_questions.proofs.TellingDocument.{made, length-made}
 use Rattle.ot_questions.proofs.Answered.{Answered, begins_answered, Decides-all_enabled, Decides-allowed, length_test}
 use Rattle.ot_questions.proofs.Listed.{of_contained, each_appended, each_of_both, each_triple}
 use Rattle.ot_questions.proofs.Lengths.{from_each_length, at_each_length}
-use Rattle.ot_questions.proofs.PairMeaning.{ArePairsEnough, declared_kind, declared_from, all_declared, pairs_mean_at, all_pairs_mean, tp1_holds_pairs_at}
-use Rattle.ot_questions.proofs.PairMeaning.{tp1_holds_all_pairs}
+use Rattle.ot_questions.proofs.PairMeaning.{ArePairsEnough, declared_kind, declared_from, all_declared, pairs_mean_at}
+use Rattle.ot_questions.proofs.PairMeaning.{all_pairs_mean, tp1_holds_pairs_at, tp1_holds_all_pairs}
 
 -- three operations that are enabled and pairwise allowed
 pub record TriplePosed (f : Function) (n : ℕ) (a b c : Op) : Type 0 where
@@ -47,18 +49,19 @@ pub record TriplePosed (f : Function) (n : ℕ) (a b c : Op) : Type 0 where
 
 -- what the plan of a triple says of the operations at the valuation
 answered_at :
-    (v : ℕ → ℤ) (f : Function) (x y w : SymOp) (n : ℕ) → v 0 ≡ pos 0 → v 1 ≡ pos n → IsCounted v x → IsCounted v y → IsCounted v w
+    (v : ℕ → ℤ) (f : Function) (x y w : SymOp) (n : ℕ) → v 0 ≡ pos 0 → v 1 ≡ pos n → IsCounted v x
+    → IsCounted v y → IsCounted v w
     → Answered (TriplePosed f n (op_at v x) (op_at v y) (op_at v w)) (TripleSays f (op_at v x) (op_at v y) (op_at v w))
     (end_of (ask_triple f x y w) v)
 answered_at v f x y w n z e cx cy cw =
     let enabled = Decides-all_enabled v n e (x ∷ y ∷ w ∷ []) in
     let last = Decides-and _ _ (Decides-allowed v f x w cx cw) (Decides-allowed v f y w cy cw) in
     let allowed = Decides-and _ _ (Decides-allowed v f x y cx cy) last in
-    subst (λ end. Answered (TriplePosed f n (op_at v x) (op_at v y) (op_at v w)) (TripleSays f (op_at v x) (op_at v y) (op_at v w)) end)
-    (sym (end-triple v f x y w z))
-    (begins_answered (TriplePosed f n (op_at v x) (op_at v y) (op_at v w)) (TripleSays f (op_at v x) (op_at v y) (op_at v w))
-    (int_le (v 0 +ℤ pos 0) (v 1 +ℤ pos 0)) (all_enabled v (x ∷ y ∷ w ∷ [])) (all_allowed v f x y w) (end_of (ask_commute f x y w) v)
-    (length_test v n z e)
+    subst (λ end. Answered (TriplePosed f n (op_at v x) (op_at v y) (op_at v w))
+    (TripleSays f (op_at v x) (op_at v y) (op_at v w)) end) (sym (end-triple v f x y w z))
+    (begins_answered (TriplePosed f n (op_at v x) (op_at v y) (op_at v w))
+    (TripleSays f (op_at v x) (op_at v y) (op_at v w)) (int_le (v 0 +ℤ pos 0) (v 1 +ℤ pos 0))
+    (all_enabled v (x ∷ y ∷ w ∷ [])) (all_allowed v f x y w) (end_of (ask_commute f x y w) v) (length_test v n z e)
     (λ en al.
     let are_enabled = enabled.0 en in
     let are_allowed = allowed.0 al in (
@@ -79,20 +82,22 @@ answered_at v f x y w n z e cx cy cw =
 
 -- and so of any operations that the names stand for
 pub triple_answered :
-    (f : Function) (x y w : SymOp) (v : ℕ → ℤ) (n : ℕ) (a b c : Op) → v 0 ≡ pos 0 → v 1 ≡ pos n → StandsForOperation v x a → StandsForOperation v y
-    b → StandsForOperation v w c
+    (f : Function) (x y w : SymOp) (v : ℕ → ℤ) (n : ℕ) (a b c : Op) → v 0 ≡ pos 0 → v 1 ≡ pos n
+    → StandsForOperation v x a → StandsForOperation v y b → StandsForOperation v w c
     → Answered (TriplePosed f n a b c) (TripleSays f a b c) (end_of (ask_triple f x y w) v)
 triple_answered f x y w v n a b c z e sx sy sw =
-    subst (λ o. Answered (TriplePosed f n o b c) (TripleSays f o b c) (end_of (ask_triple f x y w) v)) (op_at-standing v x a z sx)
-    (subst (λ o. Answered (TriplePosed f n (op_at v x) o c) (TripleSays f (op_at v x) o c) (end_of (ask_triple f x y w) v))
-    (op_at-standing v y b z sy)
+    subst (λ o. Answered (TriplePosed f n o b c) (TripleSays f o b c) (end_of (ask_triple f x y w) v))
+    (op_at-standing v x a z sx) (subst (λ o. Answered (TriplePosed f n (op_at v x) o c) (TripleSays f (op_at v x) o c)
+    (end_of (ask_triple f x y w) v)) (op_at-standing v y b z sy)
     (subst (λ o. Answered (TriplePosed f n (op_at v x) (op_at v y) o) (TripleSays f (op_at v x) (op_at v y) o)
     (end_of (ask_triple f x y w) v)) (op_at-standing v w c z sw)
-    (answered_at v f x y w n z e (counted_by_standing v x a sx) (counted_by_standing v y b sy) (counted_by_standing v w c sw))))
+    (answered_at v f x y w n z e (counted_by_standing v x a sx) (counted_by_standing v y b sy)
+    (counted_by_standing v w c sw))))
 
 -- where the plan holds, the operations commute
 pub triple_commutes :
-    (f : Function) (n : ℕ) (a b c : Op) (end : Option Why) → Answered (TriplePosed f n a b c) (TripleSays f a b c) end → end ≡ None
+    (f : Function) (n : ℕ) (a b c : Op) (end : Option Why)
+    → Answered (TriplePosed f n a b c) (TripleSays f a b c) end → end ≡ None
     → TriplePosed f n a b c → CommutesAt f a b c
 triple_commutes f n a b c end answered h posed =
     elim answered [
@@ -117,7 +122,8 @@ triple_holds_means f k l m n holds a b c ka kb kc ea eb ec ab ac bc =
     let v = valued n (pos 0) a b c in
     triple_commutes f n a b c (end_of (ask_triple f (sym_op k A) (sym_op l B) (sym_op m C)) v)
     (triple_answered f (sym_op k A) (sym_op l B) (sym_op m C) v n a b c refl refl
-    (standing-named v k A a ka refl refl refl) (standing-named v l B b kb refl refl refl) (standing-named v m C c kc refl refl refl))
+    (standing-named v k A a ka refl refl refl) (standing-named v l B b kb refl refl refl)
+    (standing-named v m C c kc refl refl refl))
     (none_from_value (end_of (ask_triple f (sym_op k A) (sym_op l B) (sym_op m C)) v) (holds v refl refl))
     (record { a_enabled = ea; b_enabled = eb; c_enabled = ec; a_and_b = ab; a_and_c = ac; b_and_c = bc })
 
@@ -134,11 +140,12 @@ triple_meaning_holds f k l m n valid has v z e =
     let second = op_at w (sym_op l B) in
     let third = op_at w (sym_op m C) in
     value_from_none (end_of (ask_triple f (sym_op k A) (sym_op l B) (sym_op m C)) v)
-    (sym (end-raised 12 v s c (ask_triple f (sym_op k A) (sym_op l B) (sym_op m C)) (plan_kept f (Triple k l m) valid).asked)
+    (sym (end-raised 12 v s c (ask_triple f (sym_op k A) (sym_op l B) (sym_op m C))
+    (plan_kept f (Triple k l m) valid).asked)
     ∙ triple_none f n first second third (end_of (ask_triple f (sym_op k A) (sym_op l B) (sym_op m C)) w)
     (triple_answered f (sym_op k A) (sym_op l B) (sym_op m C) w n first second third zero (plus-zero (v 1) ∙ e)
-    (standing-op_at w (sym_op k A) zero (counted_raised v k A)) (standing-op_at w (sym_op l B) zero (counted_raised v l B))
-    (standing-op_at w (sym_op m C) zero (counted_raised v m C)))
+    (standing-op_at w (sym_op k A) zero (counted_raised v k A)) (standing-op_at w (sym_op l B) zero
+    (counted_raised v l B)) (standing-op_at w (sym_op m C) zero (counted_raised v m C)))
     (λ posed.
     has first second third (kind_of-op_at-sym_op w k A) (kind_of-op_at-sym_op w l B) (kind_of-op_at-sym_op w m C)
     posed.a_enabled posed.b_enabled posed.c_enabled posed.a_and_b posed.a_and_c posed.b_and_c))

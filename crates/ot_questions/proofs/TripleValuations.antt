@@ -19,7 +19,8 @@ use Rattle.ot_questions.proofs.Triples.{TripleSays, triple_fails_breaks, one_tri
 use Rattle.ot_questions.proofs.TripleMeaning.{TriplePosed, triple_answered, triple_commutes, triple_none}
 use Rattle.ot_questions.proofs.PairValuations.{declared_by_standing}
 
-module _ (f : Function) (k l m : Kind) (v : ℕ → ℤ) (d : List Cell) (a b c : Op) (h : NamesTriple f k l m v (length d) a b c) where
+module _ (f : Function) (k l m : Kind) (v : ℕ → ℤ) (d : List Cell) (a b c : Op)
+    (h : NamesTriple f k l m v (length d) a b c) where
   posed_from : AreConcurrent f d (a ∷ b ∷ c ∷ []) → TriplePosed f (length d) a b c
   posed_from given = record {
     a_enabled = given.1;
@@ -48,12 +49,15 @@ module _ (f : Function) (k l m : Kind) (v : ℕ → ℤ) (d : List Cell) (a b c 
 
   answered : Answered (TriplePosed f (length d) a b c) (TripleSays f a b c) (end_of (plan_of f (Triple k l m)) v)
   unfolding plan_of
-  answered = triple_answered f (sym_op k A) (sym_op l B) (sym_op m C) v (length d) a b c h.zero h.cells h.first h.second h.third
+  answered = triple_answered f (sym_op k A) (sym_op l B) (sym_op m C) v (length d) a b c h.zero
+      h.cells h.first h.second h.third
 
-  pub triple_holds_where : (end_of (plan_of f (Triple k l m)) v ≡ None) ↔ (AreConcurrent f d (a ∷ b ∷ c ∷ []) → CommutesAt f a b c)
+  pub triple_holds_where : (end_of (plan_of f (Triple k l m)) v ≡ None)
+      ↔ (AreConcurrent f d (a ∷ b ∷ c ∷ []) → CommutesAt f a b c)
   triple_holds_where = (
     λ e given. triple_commutes f (length d) a b c (end_of (plan_of f (Triple k l m)) v) answered e (posed_from given),
-    λ commutes. triple_none f (length d) a b c (end_of (plan_of f (Triple k l m)) v) answered (λ posed. commutes (concurrent_from posed)),
+    λ commutes. triple_none f (length d) a b c (end_of (plan_of f (Triple k l m)) v) answered
+        (λ posed. commutes (concurrent_from posed)),
   )
 
   -- where TP2 fails by a cause, the plan ends in it
@@ -65,7 +69,8 @@ module _ (f : Function) (k l m : Kind) (v : ℕ → ℤ) (d : List Cell) (a b c 
   ends_by why (Some other) posed fails (inl said) = ap Some (one_triple_cause f a b c other why said.1 fails)
 
   pub triple_fails_where :
-      (why : Why) → (end_of (plan_of f (Triple k l m)) v ≡ Some why) ↔ (AreConcurrent f d (a ∷ b ∷ c ∷ []) × TripleFails f a b c why)
+      (why : Why) → (end_of (plan_of f (Triple k l m)) v ≡ Some why)
+      ↔ (AreConcurrent f d (a ∷ b ∷ c ∷ []) × TripleFails f a b c why)
   triple_fails_where why = (
     λ e. elim answered [
       | inl said ↦ (concurrent_from said.0, subst (λ end. TripleSays f a b c end) e said.1)

@@ -1,7 +1,7 @@
 -- The plan of a triple at a valuation, and TP2 at the operations that the names stand for. What is new
 -- beside pairs: a form is nop or its operation moved, so equal positions make two forms equal.
-use Rattle.std.proofs.Common.{◌≡◌, ℕ, ℤ, pos, ◌+ℤ◌, Bool, ◌&&◌, if◌then◌else◌, int_le, Option, Some, None, option_map, [], ◌∷◌, refl, ap, sym, ◌∙◌, subst, inl}
-use Rattle.std.proofs.Common.{inr, ◌⊎◌}
+use Rattle.std.proofs.Common.{◌≡◌, ℕ, ℤ, pos, ◌+ℤ◌, Bool, ◌&&◌, if◌then◌else◌, int_le, Option, Some, None, option_map}
+use Rattle.std.proofs.Common.{[], ◌∷◌, refl, ap, sym, ◌∙◌, subst, inl, inr, ◌⊎◌}
 use Rattle.std.specs.Prelude.{option_and_then}
 use Rattle.std.specs.Ordering.{int_eq}
 use Rattle.std.proofs.lemmas.Bool.{cases_Bool, false≢true}
@@ -21,11 +21,13 @@ use Rattle.ot_questions.specs.declared.why.Why.{Why}
 use Rattle.ot_questions.specs.declared.why.Why.TheVariants.{Undefined, OutOfRange, Lengths, Cells, Operations}
 use Rattle.ot_questions.specs.Places.{zero_place, length_and, integer_at, sym_kind, sym_at}
 use Rattle.ot_questions.specs.Questions.{ask_eq, ask_transform, ask_allowed}
-use Rattle.ot_questions.specs.Obligation.{ask_all_enabled, ask_one_place, ask_same_form, ask_behind, ask_commute, ask_triple}
+use Rattle.ot_questions.specs.Obligation.{ask_all_enabled, ask_one_place, ask_same_form, ask_behind, ask_commute}
+use Rattle.ot_questions.specs.Obligation.{ask_triple}
 use Rattle.ot_questions.specs.Meaning.{op_at}
 use Rattle.ot_questions.specs.Instances.{StandsForOperation, form_behind, TripleFails}
 use Rattle.ot_questions.proofs.Tests.{if_and}
-use Rattle.ot_questions.proofs.Values.{by_test, end-le, end-eq, end-transform, end-allowed, sym_transformed, sym_allowed, goes_on}
+use Rattle.ot_questions.proofs.Values.{by_test, end-le, end-eq, end-transform, end-allowed, sym_transformed}
+use Rattle.ot_questions.proofs.Values.{sym_allowed, goes_on}
 use Rattle.ot_questions.proofs.Operations.{IsCounted, transform_of-op_at}
 use Rattle.ot_questions.proofs.Forms as forms
 use Rattle.ot_questions.proofs.Forms.{form_of_form, counted_form, IsCounted-form, form-op_at}
@@ -37,7 +39,8 @@ abbrev pub FoundAs : Type 0 → Option Why → Type 0
 FoundAs Same end = (Same × (end ≡ None)) ⊎ ((Same → ⊥) × (end ≡ Some Operations))
 
 -- two places are found equal exactly where the integers that they stand for are
-place_found : (v : ℕ → ℤ) (p q : Place) → FoundAs (integer_at v p ≡ integer_at v q) (end_of (ask_eq p q Holds (Fails Operations)) v)
+place_found : (v : ℕ → ℤ) (p q : Place)
+    → FoundAs (integer_at v p ≡ integer_at v q) (end_of (ask_eq p q Holds (Fails Operations)) v)
 place_found v p q =
     elim (cases_Bool (int_eq (integer_at v p) (integer_at v q))) [
       | inl same ↦ inl (
@@ -64,15 +67,18 @@ nop_by_kind_of : (a : Op) → kind_of a ≡ None → a ≡ ops.Nop
 nop_by_kind_of ops.Nop e = refl
 nop_by_kind_of a e = absurd (cc)
 
-module _ (v : ℕ → ℤ) (x y : SymOp) (a b c : Op) (sx : StandsForOperation v x a) (sy : StandsForOperation v y b) (fa : IsFormOf c a) (fb : IsFormOf c b) where
+module _ (v : ℕ → ℤ) (x y : SymOp) (a b c : Op) (sx : StandsForOperation v x a) (sy : StandsForOperation v y b)
+    (fa : IsFormOf c a) (fb : IsFormOf c b) where
   two_kinds : (j k : Option Kind) → sym_kind x ≡ j → sym_kind y ≡ k → a ≡ b → j ≡ k
   two_kinds j k ex ey same = sym ex ∙ (sx.kind ∙ (ap kind_of same ∙ (sym sy.kind ∙ ey)))
 
   -- by the kinds of the two forms, and where both have one, by their positions
   found_by_kinds :
-      (j k : Option Kind) → sym_kind x ≡ j → sym_kind y ≡ k → FoundAs (a ≡ b) (end_of (ask_one_place j k (sym_at x) (sym_at y)) v)
+      (j k : Option Kind) → sym_kind x ≡ j → sym_kind y ≡ k
+      → FoundAs (a ≡ b) (end_of (ask_one_place j k (sym_at x) (sym_at y)) v)
   unfolding ask_one_place
-  found_by_kinds None None ex ey = inl (nop_by_kind_of a (sym sx.kind ∙ ex) ∙ sym (nop_by_kind_of b (sym sy.kind ∙ ey)), refl)
+  found_by_kinds None None ex ey =
+      inl (nop_by_kind_of a (sym sx.kind ∙ ex) ∙ sym (nop_by_kind_of b (sym sy.kind ∙ ey)), refl)
   found_by_kinds None (Some k) ex ey = inr (λ same. let wrong = two_kinds None (Some k) ex ey same in cc, refl)
   found_by_kinds (Some j) None ex ey = inr (λ same. let wrong = two_kinds (Some j) None ex ey same in cc, refl)
   found_by_kinds (Some j) (Some k) ex ey =
@@ -96,7 +102,8 @@ module _ (v : ℕ → ℤ) (x y : SymOp) (a b c : Op) (sx : StandsForOperation v
 -- the form behind two operations, at the valuation
 abbrev pub sym_behind : (ℕ → ℤ) → Function → SymOp → SymOp → SymOp → Option SymOp
 sym_behind v f a b c =
-    option_and_then (λ p. option_and_then (λ q. sym_transformed v f q p) (sym_transformed v f c a)) (sym_transformed v f b a)
+    option_and_then (λ p. option_and_then (λ q. sym_transformed v f q p) (sym_transformed v f c a))
+    (sym_transformed v f b a)
 
 goes_on-and_then :
     (o : Option SymOp) (h : SymOp → Option SymOp) (go : SymOp → Option Why)
@@ -116,7 +123,8 @@ end-behind v f a b c go =
     end-transform f c a (λ q. ask_transform f q p go) v
     ∙ (goes_on-same (sym_transformed v f c a) _ _ (λ q. end-transform f q p go v)
     ∙ goes_on-and_then (sym_transformed v f c a) (λ q. sym_transformed v f q p) (λ r. end_of (go r) v)))
-    ∙ goes_on-and_then (sym_transformed v f b a) (λ p. option_and_then (λ q. sym_transformed v f q p) (sym_transformed v f c a))
+    ∙ goes_on-and_then (sym_transformed v f b a)
+    (λ p. option_and_then (λ q. sym_transformed v f q p) (sym_transformed v f c a))
     (λ r. end_of (go r) v))
 
 -- where the questions about both ways lead
@@ -133,11 +141,13 @@ end-commute v f a b c =
 
 -- what is there after two steps was there after each
 and_then_some :
-    {X Y : Type 0} (o : Option X) (h : X → Option Y) (y : Y) → option_and_then h o ≡ Some y → (x : X) × (o ≡ Some x) × (h x ≡ Some y)
+    {X Y : Type 0} (o : Option X) (h : X → Option Y) (y : Y) → option_and_then h o ≡ Some y
+    → (x : X) × (o ≡ Some x) × (h x ≡ Some y)
 and_then_some None h y e = absurd (cc)
 and_then_some (Some x) h y e = (x, refl, e)
 
-some_and_then : {X Y : Type 0} (o : Option X) (h : X → Option Y) (x : X) (y : Y) → o ≡ Some x → h x ≡ Some y → option_and_then h o ≡ Some y
+some_and_then : {X Y : Type 0} (o : Option X) (h : X → Option Y) (x : X) (y : Y) → o ≡ Some x → h x ≡ Some y
+    → option_and_then h o ≡ Some y
 some_and_then o h x y e g = ap (option_and_then h) e ∙ g
 
 -- a form behind two operations is a form of the operation
@@ -147,10 +157,12 @@ behind_form v f a b c r e =
     let q = and_then_some (sym_transformed v f c a) _ r p.2 in
     form_of_form v f c a p.0 q.0 r q.1 q.2
 
-behind_is_form : (v : ℕ → ℤ) (f : Function) (a b c r : SymOp) → sym_behind v f a b c ≡ Some r → IsFormOf (op_at v c) (op_at v r)
+behind_is_form : (v : ℕ → ℤ) (f : Function) (a b c r : SymOp) → sym_behind v f a b c ≡ Some r
+    → IsFormOf (op_at v c) (op_at v r)
 behind_is_form v f a b c r e = form-op_at v c r (behind_form v f a b c r e)
 
-counted_behind : (v : ℕ → ℤ) (f : Function) (a b c r : SymOp) → IsCounted v c → sym_behind v f a b c ≡ Some r → IsCounted v r
+counted_behind : (v : ℕ → ℤ) (f : Function) (a b c r : SymOp) → IsCounted v c
+    → sym_behind v f a b c ≡ Some r → IsCounted v r
 counted_behind v f a b c r cd e = IsCounted-form v c r (behind_form v f a b c r e) cd
 
 -- the form behind two operations is that of the operations that the names stand for
@@ -158,8 +170,8 @@ form_behind-op_at :
     (v : ℕ → ℤ) (f : Function) (a b c : SymOp) → v 0 ≡ pos 0 → IsCounted v a → IsCounted v b → IsCounted v c
     → form_behind f (op_at v a) (op_at v b) (op_at v c) ≡ option_map (op_at v) (sym_behind v f a b c)
 form_behind-op_at v f a b c z ca cb cd =
-    ap (λ o. option_and_then (λ p. option_and_then (λ q. transform_of f q p) (transform_of f (op_at v c) (op_at v a))) o)
-    (transform_of-op_at v z b a cb ca f)
+    ap (λ o. option_and_then (λ p. option_and_then (λ q. transform_of f q p) (transform_of f (op_at v c) (op_at v a)))
+    o) (transform_of-op_at v z b a cb ca f)
     ∙ through_first (sym_transformed v f b a) refl
   where
     through_second :
@@ -180,7 +192,8 @@ form_behind-op_at v f a b c z ca cb cd =
         ∙ through_second p (counted_form v f b a p cb e) (sym_transformed v f c a) refl
 
 -- the operations commute where both ways give one form
-commutes_by_forms : (f : Function) (a b c r : Op) → form_behind f a b c ≡ Some r → form_behind f b a c ≡ Some r → CommutesAt f a b c
+commutes_by_forms : (f : Function) (a b c r : Op) → form_behind f a b c ≡ Some r
+    → form_behind f b a c ≡ Some r → CommutesAt f a b c
 commutes_by_forms f a b c r left right =
     let ba = and_then_some (transform_of f b a) _ r left in
     let c_a = and_then_some (transform_of f c a) _ r ba.2 in
@@ -217,8 +230,10 @@ one_form : (o : Option Op) (r s : Op) → o ≡ Some r → o ≡ Some s → r �
 one_form o r s e h = cc
 
 pub triple_fails_breaks : (f : Function) (a b c : Op) (why : Why) → TripleFails f a b c why → CommutesAt f a b c → ⊥
-triple_fails_breaks f a b c Undefined (inl none) h = no_form (form_behind f a b c) h.c_after_both none (forms_by_commutes f a b c h).0
-triple_fails_breaks f a b c Undefined (inr none) h = no_form (form_behind f b a c) h.c_after_both none (forms_by_commutes f a b c h).1
+triple_fails_breaks f a b c Undefined (inl none) h =
+    no_form (form_behind f a b c) h.c_after_both none (forms_by_commutes f a b c h).0
+triple_fails_breaks f a b c Undefined (inr none) h =
+    no_form (form_behind f b a c) h.c_after_both none (forms_by_commutes f a b c h).1
 triple_fails_breaks f a b c OutOfRange fails h = fails
 triple_fails_breaks f a b c Lengths fails h = fails
 triple_fails_breaks f a b c (Cells left dead) fails h = fails
@@ -228,7 +243,8 @@ triple_fails_breaks f a b c Operations fails h =
     (one_form (form_behind f b a c) fails.1 h.c_after_both fails.3 both.1))
 
 -- the causes exclude one another
-pub one_triple_cause : (f : Function) (a b c : Op) (why other : Why) → TripleFails f a b c why → TripleFails f a b c other → why ≡ other
+pub one_triple_cause : (f : Function) (a b c : Op) (why other : Why) → TripleFails f a b c why
+    → TripleFails f a b c other → why ≡ other
 one_triple_cause f a b c Undefined Undefined h g = refl
 one_triple_cause f a b c Undefined Operations (inl none) g = absurd (no_form (form_behind f a b c) g.0 none g.2)
 one_triple_cause f a b c Undefined Operations (inr none) g = absurd (no_form (form_behind f b a c) g.1 none g.3)
@@ -250,7 +266,8 @@ abbrev pub TripleSays : Function → Op → Op → Op → Option Why → Type 0
 TripleSays f a b c None = CommutesAt f a b c
 TripleSays f a b c (Some why) = TripleFails f a b c why
 
-module _ (v : ℕ → ℤ) (f : Function) (a b c : SymOp) (z : v 0 ≡ pos 0) (ca : IsCounted v a) (cb : IsCounted v b) (cd : IsCounted v c) where
+module _ (v : ℕ → ℤ) (f : Function) (a b c : SymOp) (z : v 0 ≡ pos 0) (ca : IsCounted v a) (cb : IsCounted v b)
+    (cd : IsCounted v c) where
   -- each of the two forms is missing, or their comparison tells whether they are one operation
   by_both :
       (left right : Option SymOp) → sym_behind v f a b c ≡ left → sym_behind v f b a c ≡ right
@@ -262,7 +279,8 @@ module _ (v : ℕ → ℤ) (f : Function) (a b c : SymOp) (z : v 0 ≡ pos 0) (c
       let right = form_behind-op_at v f b a c z cb ca cd ∙ ap (option_map (op_at v)) er in
       let cp = counted_behind v f a b c p cd el in
       let cq = counted_behind v f b a c q cd er in
-      elim (same_form_found v p q (op_at v p) (op_at v q) (op_at v c) (standing-op_at v p z cp) (standing-op_at v q z cq)
+      elim (same_form_found v p q (op_at v p) (op_at v q) (op_at v c) (standing-op_at v p z cp)
+      (standing-op_at v q z cq)
       (behind_is_form v f a b c p el) (behind_is_form v f b a c q er)) [
         | inl same ↦
             subst (λ end. TripleSays f (op_at v a) (op_at v b) (op_at v c) end) (sym same.1)
@@ -286,7 +304,8 @@ pub end-triple :
     (v : ℕ → ℤ) (f : Function) (a b c : SymOp) → v 0 ≡ pos 0
     → end_of (ask_triple f a b c) v
     ≡ (if int_le (v 0 +ℤ pos 0) (v 1 +ℤ pos 0)
-    then (if all_enabled v (a ∷ b ∷ c ∷ []) then (if all_allowed v f a b c then end_of (ask_commute f a b c) v else None) else None)
+    then (if all_enabled v (a ∷ b ∷ c ∷ [])
+    then (if all_allowed v f a b c then end_of (ask_commute f a b c) v else None) else None)
     else None)
 unfolding ask_triple
 end-triple v f a b c z =

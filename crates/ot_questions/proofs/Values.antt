@@ -1,7 +1,7 @@
 -- Where a valuation leads through the questions: each `ask_` function goes on as the test at the
 -- valuation says.
-use Rattle.std.proofs.Common.{◌≡◌, ℕ, ℤ, pos, negsuc, ◌+ℤ◌, Bool, true, false, not, ◌&&◌, ◌||◌, if◌then◌else◌, nat_eq, int_le, int_lt, Option, Some, None, List}
-use Rattle.std.proofs.Common.{[], ◌∷◌, refl, ap, ◌∙◌, inl, inr}
+use Rattle.std.proofs.Common.{◌≡◌, ℕ, ℤ, pos, negsuc, ◌+ℤ◌, Bool, true, false, not, ◌&&◌, ◌||◌, if◌then◌else◌, nat_eq}
+use Rattle.std.proofs.Common.{int_le, int_lt, Option, Some, None, List, [], ◌∷◌, refl, ap, ◌∙◌, inl, inr}
 use Rattle.std.specs.Ordering.{int_eq}
 use Rattle.std.proofs.lemmas.Bool.{cases_Bool}
 use Rattle.std.proofs.lemmas.Bool.Decides.{Decides-eqb}
@@ -23,14 +23,18 @@ use Rattle.ot_questions.specs.declared.place.SymOp.{SymOp}
 use Rattle.ot_questions.specs.declared.place.SymOp.TheVariants.{Ins, Del, Upd, Nop}
 use Rattle.ot_questions.specs.declared.why.Why.{Why}
 use Rattle.ot_questions.specs.declared.why.Why.TheVariants.{Undefined}
-use Rattle.ot_questions.specs.Places.{place, plus, zero_place, length_and, index_and, integer_at, sym_kind, sym_site, sym_char, sym_result, sym_thing}
-use Rattle.ot_questions.specs.Questions.{ask_le, ask_lt, ask_eq, ask_compared, ask_atom, ask_guard, ask_first_result, ask_result_by_kinds, ask_result}
-use Rattle.ot_questions.specs.Questions.{or_undefined, ask_transform, ask_enabled, ask_differ, ask_allowed}
+use Rattle.ot_questions.specs.Places.{place, plus, zero_place, length_and, index_and, integer_at, sym_kind, sym_site}
+use Rattle.ot_questions.specs.Places.{sym_char, sym_result, sym_thing}
+use Rattle.ot_questions.specs.Questions.{ask_le, ask_lt, ask_eq, ask_compared, ask_atom, ask_guard, ask_first_result}
+use Rattle.ot_questions.specs.Questions.{ask_result_by_kinds, ask_result, or_undefined, ask_transform, ask_enabled}
+use Rattle.ot_questions.specs.Questions.{ask_differ, ask_allowed}
 use Rattle.ot_questions.specs.Reading.{base_cell, put_cell, buried_cell, replaced_cell, ask_cell}
 use Rattle.ot_questions.specs.Meaning.{op_at}
-use Rattle.ot_questions.proofs.Tests.{int_le-same_name, int_le-shifted, int_le-before, if_and, if_or, if_not, if_through, if_eq}
+use Rattle.ot_questions.proofs.Tests.{int_le-same_name, int_le-shifted, int_le-before, if_and, if_or, if_not}
+use Rattle.ot_questions.proofs.Tests.{if_through, if_eq}
 
-pub if_end : (b : Bool) (p q : Plan Why) (v : ℕ → ℤ) → end_of (if b then p else q) v ≡ (if b then end_of p v else end_of q v)
+pub if_end : (b : Bool) (p q : Plan Why) (v : ℕ → ℤ)
+    → end_of (if b then p else q) v ≡ (if b then end_of p v else end_of q v)
 if_end true p q v = refl
 if_end false p q v = refl
 
@@ -40,25 +44,29 @@ by_test b p q v = if b then end_of p v else end_of q v
 
 -- a comparison goes on as the integers of the two places compare
 pub end-le :
-    (a b : Place) (p q : Plan Why) (v : ℕ → ℤ) → end_of (ask_le a b p q) v ≡ by_test (int_le (integer_at v a) (integer_at v b)) p q v
+    (a b : Place) (p q : Plan Why) (v : ℕ → ℤ)
+    → end_of (ask_le a b p q) v ≡ by_test (int_le (integer_at v a) (integer_at v b)) p q v
 unfolding ask_le
 end-le a b p q v =
     elim (cases_Bool (nat_eq a.var b.var)) [
       | inl same ↦
           rw same
           (if_end (int_le a.off b.off) p q v
-          ∙ ap (λ t. by_test t p q v) (int_le-same_name (v a.var) (v b.var) a.off b.off (ap v ((Decides-eqb a.var b.var).0 same))))
+          ∙ ap (λ t. by_test t p q v)
+          (int_le-same_name (v a.var) (v b.var) a.off b.off (ap v ((Decides-eqb a.var b.var).0 same))))
       | inr other ↦ rw other (ap (λ t. by_test t p q v) (int_le-shifted (v a.var) (v b.var) a.off b.off))
     ]
 
 pub end-lt :
-    (a b : Place) (p q : Plan Why) (v : ℕ → ℤ) → end_of (ask_lt a b p q) v ≡ by_test (int_lt (integer_at v a) (integer_at v b)) p q v
+    (a b : Place) (p q : Plan Why) (v : ℕ → ℤ)
+    → end_of (ask_lt a b p q) v ≡ by_test (int_lt (integer_at v a) (integer_at v b)) p q v
 unfolding ask_lt
 end-lt a b p q v =
     end-le a (plus b (negsuc 0)) p q v ∙ ap (λ t. by_test t p q v) (int_le-before (integer_at v a) (v b.var) b.off)
 
 pub end-eq :
-    (a b : Place) (p q : Plan Why) (v : ℕ → ℤ) → end_of (ask_eq a b p q) v ≡ by_test (int_eq (integer_at v a) (integer_at v b)) p q v
+    (a b : Place) (p q : Plan Why) (v : ℕ → ℤ)
+    → end_of (ask_eq a b p q) v ≡ by_test (int_eq (integer_at v a) (integer_at v b)) p q v
 unfolding ask_eq
 end-eq a b p q v =
     end-le a b (ask_le b a p q) q v
@@ -96,7 +104,8 @@ end-atom atom a b p q v =
 
 -- a guard goes on by its truth at the valuation
 pub end-guard :
-    (g : Formula) (a b : SymOp) (p q : Plan Why) (v : ℕ → ℤ) → end_of (ask_guard g a b p q) v ≡ by_test (sym_holds v g a b) p q v
+    (g : Formula) (a b : SymOp) (p q : Plan Why) (v : ℕ → ℤ)
+    → end_of (ask_guard g a b p q) v ≡ by_test (sym_holds v g a b) p q v
 unfolding ask_guard
 end-guard Always a b p q v = refl
 end-guard (Compare atom) a b p q v = end-atom atom a b p q v
@@ -178,8 +187,10 @@ end-has_cell :
     ≡ by_test (int_le (pos 0) (integer_at v at) && int_lt (integer_at v at) (v 1 +ℤ off)) p q v
 end-has_cell at off p q v z =
     end-le zero_place at (ask_lt at (length_and off) p q) q v
-    ∙ (ap (λ e. if int_le (integer_at v zero_place) (integer_at v at) then e else end_of q v) (end-lt at (length_and off) p q v)
-    ∙ (if_and (int_le (integer_at v zero_place) (integer_at v at)) (int_lt (integer_at v at) (v 1 +ℤ off)) (end_of p v) (end_of q v)
+    ∙ (ap (λ e. if int_le (integer_at v zero_place) (integer_at v at) then e else end_of q v)
+    (end-lt at (length_and off) p q v)
+    ∙ (if_and (int_le (integer_at v zero_place) (integer_at v at)) (int_lt (integer_at v at) (v 1 +ℤ off))
+    (end_of p v) (end_of q v)
     ∙ ap (λ x. by_test (int_le (x +ℤ pos 0) (integer_at v at) && int_lt (integer_at v at) (v 1 +ℤ off)) p q v) z))
 
 -- whether an operation is enabled goes on by the test of the operation that the names stand for
@@ -189,8 +200,10 @@ pub end-enabled :
 unfolding ask_enabled
 end-enabled (Ins at c s) off p q v z =
     end-le zero_place at (ask_le at (length_and off) p q) q v
-    ∙ (ap (λ e. if int_le (integer_at v zero_place) (integer_at v at) then e else end_of q v) (end-le at (length_and off) p q v)
-    ∙ (if_and (int_le (integer_at v zero_place) (integer_at v at)) (int_le (integer_at v at) (v 1 +ℤ off)) (end_of p v) (end_of q v)
+    ∙ (ap (λ e. if int_le (integer_at v zero_place) (integer_at v at) then e else end_of q v)
+    (end-le at (length_and off) p q v)
+    ∙ (if_and (int_le (integer_at v zero_place) (integer_at v at)) (int_le (integer_at v at) (v 1 +ℤ off))
+    (end_of p v) (end_of q v)
     ∙ ap (λ x. by_test (int_le (x +ℤ pos 0) (integer_at v at) && int_le (integer_at v at) (v 1 +ℤ off)) p q v) z))
 end-enabled (Del at s) off p q v z = end-has_cell at off p q v z
 end-enabled (Upd at c s) off p q v z = end-has_cell at off p q v z
@@ -202,7 +215,8 @@ sym_differ v None y = true
 sym_differ v (Some x) None = true
 sym_differ v (Some x) (Some y) = not (int_eq (v x +ℤ pos 0) (v y +ℤ pos 0))
 
-end-differ : (x y : Option ℕ) (p : Plan Why) (v : ℕ → ℤ) → end_of (ask_differ x y p) v ≡ by_test (sym_differ v x y) p Holds v
+end-differ : (x y : Option ℕ) (p : Plan Why) (v : ℕ → ℤ)
+    → end_of (ask_differ x y p) v ≡ by_test (sym_differ v x y) p Holds v
 unfolding ask_differ
 end-differ None y p v = refl
 end-differ (Some x) None p v = refl
@@ -228,7 +242,8 @@ unfolding ask_allowed
 end-allowed head a b p v =
     let sites = (if head.sites_differ then sym_differ v (sym_site a) (sym_site b) else true) in
     let chars = (if head.chars_differ then sym_differ v (sym_char a) (sym_char b) else true) in
-    differ_if head.sites_differ (sym_site a) (sym_site b) (if head.chars_differ then ask_differ (sym_char a) (sym_char b) p else p) v
+    differ_if head.sites_differ (sym_site a) (sym_site b) (if head.chars_differ
+    then ask_differ (sym_char a) (sym_char b) p else p) v
     ∙ (ap (λ e. if sites then e else None) (differ_if head.chars_differ (sym_char a) (sym_char b) p v)
     ∙ if_and sites chars (end_of p v) None)
 
@@ -270,16 +285,17 @@ end-put mode p c s ops off go v here behind =
     ∙ (ap (λ e. if int_lt (v 2 +ℤ off) (integer_at v p) then end_of (ask_cell mode ops off go) v else e)
     (end-le (index_and off) p (go (put_cell c)) (ask_cell mode ops (off +ℤ negsuc 0) go) v)
     ∙ (ap (λ e. if int_lt (v 2 +ℤ off) (integer_at v p) then e
-    else (if int_le (v 2 +ℤ off) (integer_at v p) then end_of (go (put_cell c)) v else end_of (ask_cell mode ops (off +ℤ negsuc 0) go)
-    v)) here
+    else (if int_le (v 2 +ℤ off) (integer_at v p) then end_of (go (put_cell c)) v
+    else end_of (ask_cell mode ops (off +ℤ negsuc 0) go) v)) here
     ∙ (ap (λ e. if int_lt (v 2 +ℤ off) (integer_at v p) then end_of (go (seen v mode ops off)) v
     else (if int_le (v 2 +ℤ off) (integer_at v p) then end_of (go (put_cell c)) v else e)) behind
-    ∙ through_two (int_lt (v 2 +ℤ off) (integer_at v p)) (int_le (v 2 +ℤ off) (integer_at v p)) (seen v mode ops off) (put_cell c)
-    (seen v mode ops (off +ℤ negsuc 0)) (λ x. end_of (go x) v))))
+    ∙ through_two (int_lt (v 2 +ℤ off) (integer_at v p)) (int_le (v 2 +ℤ off) (integer_at v p)) (seen v mode ops off)
+    (put_cell c) (seen v mode ops (off +ℤ negsuc 0)) (λ x. end_of (go x) v))))
 
 -- a tombstone, or a character that was replaced
 end-changed :
-    (mode : Mode) (change : Finished → Finished) (p : Place) (ops : List SymOp) (off : ℤ) (go : Finished → Plan Why) (v : ℕ → ℤ)
+    (mode : Mode) (change : Finished → Finished) (p : Place) (ops : List SymOp)
+    (off : ℤ) (go : Finished → Plan Why) (v : ℕ → ℤ)
     → end_of (ask_cell mode ops off go) v ≡ end_of (go (seen v mode ops off)) v
     → end_of (ask_cell mode ops off (λ cell. go (change cell))) v ≡ end_of (go (change (seen v mode ops off))) v
     → end_of (ask_lt (index_and off) p (ask_cell mode ops off go)
@@ -291,7 +307,8 @@ end-changed mode change p ops off go v kept made =
     ∙ (ap (λ e. if int_lt (v 2 +ℤ off) (integer_at v p) then end_of (ask_cell mode ops off go) v else e)
     (end-le (index_and off) p (ask_cell mode ops off (λ cell. go (change cell))) (ask_cell mode ops off go) v)
     ∙ (ap (λ e. if int_lt (v 2 +ℤ off) (integer_at v p) then e
-    else (if int_le (v 2 +ℤ off) (integer_at v p) then end_of (ask_cell mode ops off (λ cell. go (change cell))) v else e)) kept
+    else (if int_le (v 2 +ℤ off) (integer_at v p)
+    then end_of (ask_cell mode ops off (λ cell. go (change cell))) v else e)) kept
     ∙ (ap (λ e. if int_lt (v 2 +ℤ off) (integer_at v p) then end_of (go (seen v mode ops off)) v
     else (if int_le (v 2 +ℤ off) (integer_at v p) then e else end_of (go (seen v mode ops off)) v)) made
     ∙ through_two (int_lt (v 2 +ℤ off) (integer_at v p)) (int_le (v 2 +ℤ off) (integer_at v p)) (seen v mode ops off)
@@ -313,9 +330,11 @@ end-cell Plain (Del p s ∷ ops) off go v =
     (end-cell Plain ops off go v)
     ∙ (ap (λ e. if int_lt (v 2 +ℤ off) (integer_at v p) then end_of (go (seen v Plain ops off)) v else e)
     (end-cell Plain ops (off +ℤ pos 1) go v)
-    ∙ if_through (λ x. end_of (go x) v) (int_lt (v 2 +ℤ off) (integer_at v p)) (seen v Plain ops off) (seen v Plain ops (off +ℤ pos 1))))
+    ∙ if_through (λ x. end_of (go x) v) (int_lt (v 2 +ℤ off) (integer_at v p)) (seen v Plain ops off)
+    (seen v Plain ops (off +ℤ pos 1))))
 end-cell Tomb (Del p s ∷ ops) off go v =
-    end-changed Tomb buried_cell p ops off go v (end-cell Tomb ops off go v) (end-cell Tomb ops off (λ cell. go (buried_cell cell)) v)
+    end-changed Tomb buried_cell p ops off go v (end-cell Tomb ops off go v)
+    (end-cell Tomb ops off (λ cell. go (buried_cell cell)) v)
 end-cell Plain (Upd p c s ∷ ops) off go v =
     end-changed Plain (replaced_cell c) p ops off go v (end-cell Plain ops off go v)
     (end-cell Plain ops off (λ cell. go (replaced_cell c cell)) v)

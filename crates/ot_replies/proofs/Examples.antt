@@ -20,7 +20,8 @@ counterexample :
       left = Op (Ins (pos 0) 99 3);
       right = Op (Ins (pos 1) 99 3);
     })
-    ≡ line_of (codes "no tp2 operations") ++ line_of (codes "doc [y]") ++ line_of (codes "op 1 ins 1 a 1") ++ line_of (codes "op 2 del 0 2")
+    ≡ line_of (codes "no tp2 operations") ++ line_of (codes "doc [y]") ++ line_of (codes "op 1 ins 1 a 1")
+    ++ line_of (codes "op 2 del 0 2")
     ++ line_of (codes "op 3 ins 0 c 3") ++ line_of (codes "left ins 0 c 3") ++ line_of (codes "right ins 1 c 3")
 unfolding encode digits
 counterexample = refl
@@ -30,9 +31,11 @@ hub :
     hub_text (record {
       logged = 0;
       doc = [];
-      clients = record { received = 0; pending = 1; doc = live_cell 97 ∷ [] } ∷ record { received = 0; pending = 0; doc = [] } ∷ [];
+      clients = record { received = 0; pending = 1; doc = live_cell 97 ∷ [] }
+          ∷ record { received = 0; pending = 0; doc = [] } ∷ [];
       differ = None;
     })
-    ≡ line_of (codes "server 0 []") ++ line_of (codes "client 1 0 1 [a]") ++ line_of (codes "client 2 0 0 []") ++ line_of (codes "same")
+    ≡ line_of (codes "server 0 []") ++ line_of (codes "client 1 0 1 [a]") ++ line_of (codes "client 2 0 0 []")
+    ++ line_of (codes "same")
 unfolding encode digits
 hub = refl

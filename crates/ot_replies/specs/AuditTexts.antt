@@ -7,11 +7,11 @@ use Rattle.ot_model.specs.declared.op.Kind.{Kind}
 use Rattle.ot_model.specs.declared.op.Op.{Op}
 use Rattle.fn_rules.specs.declared.function.ObName.TheVariants.{Pair}
 use Rattle.cert_text.specs.Spelling.{name_text}
-use Rattle.audit_answers.specs.declared.audits.Audit.{Audit}
-use Rattle.audit_answers.specs.declared.audits.Audit.TheVariants as audits
-use Rattle.audit_answers.specs.declared.audits.BlockAudit.{BlockAudit}
-use Rattle.audit_answers.specs.declared.audits.Same.{Same}
-use Rattle.audit_answers.specs.declared.audits.Same.TheVariants as sames
+use Rattle.ot_audit.specs.declared.audits.Audit.{Audit}
+use Rattle.ot_audit.specs.declared.audits.Audit.TheVariants as audits
+use Rattle.ot_audit.specs.declared.audits.BlockAudit.{BlockAudit}
+use Rattle.ot_audit.specs.declared.audits.Same.{Same}
+use Rattle.ot_audit.specs.declared.audits.Same.TheVariants as sames
 use Rattle.ot_counter.specs.Ways.{operation_result}
 use Rattle.ot_replies.specs.CounterTexts.{line_of, op_lines, op_text, way_text}
 

@@ -3,7 +3,7 @@
 use Rattle.std.specs.Prelude.{ℕ, List, [], ◌++◌, codes}
 use Rattle.std.specs.Fmt.{decimal}
 use Rattle.cert_text.specs.Spelling.{level_text}
-use Rattle.fn_moves.specs.declared.fault.TextFault.{TextFault}
+use Rattle.fn_tokens.specs.declared.fault.TextFault.{TextFault}
 use Rattle.fn_rules.specs.declared.function.Level.{Level}
 use Rattle.fn_rules.specs.declared.function.Level.TheVariants.{Tp1, Tp2}
 use Rattle.ot_counter.specs.declared.counter.Counter.{Counter}

@@ -3,8 +3,8 @@ use Rattle.std.specs.Prelude.{ℕ, List, [], ◌∷◌, ◌++◌, codes, Option,
 use Rattle.ot_model.specs.declared.cell.Cell.{Cell}
 use Rattle.ot_model.specs.declared.op.Op.{Op}
 use Rattle.ot_counter.specs.Ways.{operation_result}
-use Rattle.audit_answers.specs.declared.back.Back.{Back}
-use Rattle.audit_answers.specs.declared.back.Back.TheVariants as backs
+use Rattle.ot_audit.specs.declared.back.Back.{Back}
+use Rattle.ot_audit.specs.declared.back.Back.TheVariants as backs
 use Rattle.ot_replies.specs.AuditTexts.{spent_text}
 use Rattle.ot_replies.specs.CounterTexts.{line_of, op_lines, way_text}
 use Rattle.ot_replies.specs.DocumentTexts.{document_text}

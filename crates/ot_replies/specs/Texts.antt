@@ -34,8 +34,8 @@ abbrev pub differ_status : {X : Type 0} → Option X → ℕ
 differ_status None = 0
 differ_status (Some found) = 1
 
--- the status of a trace, which is that of the reply at its end: such a one is none of a fault of the outside, and none is
--- above 9
+-- the status of a trace, which is that of the reply at its end: such a one is
+-- none of a fault of the outside, and none is above 9
 abbrev pub traced_status : ℕ → ℕ
 traced_status status = if nat_le status 5 then status else (if nat_le status 8 then 8 else 9)
 

@@ -1,8 +1,8 @@
 //! What a command replies.
-use audit_answers::{Audit, Back, Same};
 use case_json::CaseFault;
 use fn_rules::Level;
 use fn_text::TextFault;
+use ot_audit::{Audit, Back, Same};
 use ot_counter::Counter;
 use ot_drill::Tally;
 use ot_integrate::End;

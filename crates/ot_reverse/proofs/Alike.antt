@@ -1,6 +1,6 @@
 -- Functions that are alike are for the same kinds, and forms can be transformed further.
-use Rattle.std.proofs.Common.{◌≡◌, true, Bool, Option, Some, None, IsTrue, refl, ap, sym, subst, inl, inr, ◌∙◌, ◌+◌, ◌&&◌}
-use Rattle.std.proofs.Common.{arith}
+use Rattle.std.proofs.Common.{◌≡◌, true, Bool, Option, Some, None, IsTrue, refl, ap, sym, subst, inl, inr, ◌∙◌, ◌+◌}
+use Rattle.std.proofs.Common.{◌&&◌, arith}
 use Rattle.std.proofs.lemmas.Int.{ints}
 use Rattle.ot_model.specs.declared.op.Kind.{Kind}
 use Rattle.ot_model.specs.declared.op.Kind.TheVariants as kinds
@@ -13,7 +13,8 @@ use Rattle.ot_values.specs.Values.{farthest}
 use Rattle.ot_reverse.specs.Reversal.{AreAlike}
 
 but_for_flags : (head other : Head) (k : Kind)
-    → is_declared (record other { sites_differ = head.sites_differ; chars_differ = head.chars_differ }) k ≡ is_declared other k
+    → is_declared (record other { sites_differ = head.sites_differ; chars_differ = head.chars_differ }) k
+    ≡ is_declared other k
 but_for_flags head other kinds.Ins = refl
 but_for_flags head other kinds.Del = refl
 but_for_flags head other kinds.Upd = refl
@@ -26,7 +27,8 @@ for_alike head other None alike h = h
 for_alike head other (Some k) alike h = subst (λ (b : Bool). IsTrue b) (same_kinds head other k alike) h
 
 pub pair_alike :
-    (head other : Head) (k l : Kind) → AreAlike head other → is_declared_pair head k l ≡ true → is_declared_pair other k l ≡ true
+    (head other : Head) (k l : Kind) → AreAlike head other → is_declared_pair head k l ≡ true
+    → is_declared_pair other k l ≡ true
 pair_alike head other k l alike h =
     ap (λ (b : Bool). b && is_declared other l) (sym (same_kinds head other k alike))
     ∙ ap (λ (b : Bool). is_declared head k && b) (sym (same_kinds head other l alike)) ∙ h

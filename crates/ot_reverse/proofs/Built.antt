@@ -17,7 +17,8 @@ Whole head a b cs ds = if_length (if_all_enabled (a ∷ b ∷ []) (if_allowed he
 
 -- a goal that was built from its parts, as a reversal has them, is the goal of the reversal
 pub built :
-    (f e : Function) (k l : Kind) (head : Head) (a b : SymOp) (cs ds : List GuardedCase) (taken allowed whole : GoalTree)
+    (f e : Function) (k l : Kind) (head : Head) (a b : SymOp) (cs ds : List GuardedCase)
+    (taken allowed whole : GoalTree)
     → a ≡ sym_op k A → b ≡ sym_op l B → head ≡ f.head → cs ≡ cases_of f k l → ds ≡ cases_of e k l
     → taken ≡ unless_taken_back cs ds a b → allowed ≡ if_allowed head a b taken
     → whole ≡ if_length (if_all_enabled (a ∷ b ∷ []) allowed) → whole ≡ reversal_goal f e k l

@@ -1,5 +1,6 @@
 -- The plans of goals keep the limits of plans, and compare like with like.
-use Rattle.std.proofs.Common.{◌≡◌, ℕ, ◌+◌, ◌*◌, ◌<◌, ℤ, pos, true, Option, Some, None, List, [], ◌∷◌, refl, sym, subst, arith, lit<, lit≤}
+use Rattle.std.proofs.Common.{◌≡◌, ℕ, ◌+◌, ◌*◌, ◌<◌, ℤ, pos, true, Option, Some, None, List, [], ◌∷◌, refl, sym, subst}
+use Rattle.std.proofs.Common.{arith, lit<, lit≤}
 use Rattle.std.proofs.lemmas.Int.{ints}
 use Rattle.ot_model.specs.declared.op.Kind.{Kind}
 use Rattle.ot_model.specs.declared.op.Kind.TheVariants as kinds
@@ -25,9 +26,10 @@ use Rattle.ot_terms.proofs.Starts.{ask_form-enabled_form}
 use Rattle.ot_audit.specs.Goals.{with_first_result}
 use Rattle.ot_audit.proofs.Asked.{ask_goal-if_allowed}
 use Rattle.ot_audit.proofs.Differences.{ask_goal-unless_one_place}
-use Rattle.ot_audit.proofs.Kept.{KeepsAllowed, KeepsComparison, KeepsOneForm, KeepsResult, StandsNamed, ValidCases, fails_kept, few_atoms, holds_kept}
-use Rattle.ot_audit.proofs.Kept.{kind_of_named, longer_kept, near_zero, op_wider}
-use Rattle.ot_reverse.specs.Goals.{reversal_goal, undefined, unless_back, unless_itself, unless_taken_back, unless_there}
+use Rattle.ot_audit.proofs.Kept.{KeepsAllowed, KeepsComparison, KeepsOneForm, KeepsResult, StandsNamed, ValidCases}
+use Rattle.ot_audit.proofs.Kept.{fails_kept, few_atoms, holds_kept, kind_of_named, longer_kept, near_zero, op_wider}
+use Rattle.ot_reverse.specs.Goals.{reversal_goal, undefined, unless_back, unless_itself, unless_taken_back}
+use Rattle.ot_reverse.specs.Goals.{unless_there}
 use Rattle.ot_reverse.proofs.Ends.{back_asked}
 
 abbrev pub KeepsEnabled : Type 0
@@ -63,7 +65,8 @@ module _ (e : Function) (l : Kind) (b : SymOp) where
   -- a result of a named operation is nop or of its kind
   one_back :
       (k : Kind) (res : Res)
-      → unless_back (cases_of e k l) (sym_op k A) b (sym_result res (sym_op k A) b) (sym_kind (sym_result res (sym_op k A) b))
+      → unless_back (cases_of e k l) (sym_op k A) b (sym_result res (sym_op k A) b)
+      (sym_kind (sym_result res (sym_op k A) b))
       ≡ back_by e l (sym_op k A) b (sym_result res (sym_op k A) b) (sym_kind (sym_result res (sym_op k A) b))
   one_back kinds.Ins (results.Keep base off) = refl
   one_back kinds.Del (results.Keep base off) = refl
@@ -80,8 +83,10 @@ module _ (e : Function) (l : Kind) (b : SymOp) where
       let others = one_goal h k cs in
       cc
 
-module _ (named : StandsNamed) (comparison : KeepsComparison) (enabled : KeepsEnabled) (allowed : KeepsAllowed) (result : KeepsResult) (one_form : KeepsOneForm)
-    (valid_cases : ValidCases) (f e : Function) (k l : Kind) (valid : is_valid f ≡ true) (other_valid : is_valid e ≡ true) where
+module _ (named : StandsNamed) (comparison : KeepsComparison) (enabled : KeepsEnabled) (allowed : KeepsAllowed)
+    (result : KeepsResult) (one_form : KeepsOneForm)
+    (valid_cases : ValidCases) (f e : Function) (k l : Kind) (valid : is_valid f ≡ true)
+    (other_valid : is_valid e ≡ true) where
   abbrev first_op : SymOp
   first_op = sym_op k A
 
@@ -105,7 +110,8 @@ module _ (named : StandsNamed) (comparison : KeepsComparison) (enabled : KeepsEn
   same_kept : (y : SymOp) → OpStands (IsBelow 9) 198 y → IsKept 9 2 (ask_goal f (unless_itself first_op (Some y)))
   same_kept y stands =
       subst (λ p. IsKept 9 2 p) (sym (ask_goal-unless_one_place f y first_op))
-      (one_form 9 y first_op (lit< tt) (op_wider 198 500 y wider_198_500 stands) (op_wider 0 500 first_op wider_0_500 first_stands))
+      (one_form 9 y first_op (lit< tt) (op_wider 198 500 y wider_198_500 stands)
+      (op_wider 0 500 first_op wider_0_500 first_stands))
 
   back_kept :
       (there : SymOp) (o : Option Kind) → sym_kind there ≡ o → OpStands (IsBelow 9) 99 there
@@ -114,17 +120,21 @@ module _ (named : StandsNamed) (comparison : KeepsComparison) (enabled : KeepsEn
   back_kept there (Some j) is stands =
       subst (λ p. IsKept 9 (2 + 2 * function_atoms e) p)
       (sym (back_asked f e there second_op j l (unless_itself first_op) is (kind_of_named l B)))
-      (result 9 2 99 e there second_op (λ y. ask_goal f (unless_itself first_op y)) (lit< tt) other_valid (lit≤ tt) stands
-      (op_wider 0 99 second_op wider_0_99 second_stands) (undefined_kept 2) same_kept)
+      (result 9 2 99 e there second_op (λ y. ask_goal f (unless_itself first_op y)) (lit< tt) other_valid (lit≤ tt)
+      stands (op_wider 0 99 second_op wider_0_99 second_stands) (undefined_kept 2) same_kept)
 
   taken_back_kept :
-      IsKept 9 (2 + 2 * function_atoms e + 2 * function_atoms f) (ask_goal f (unless_taken_back (cases_of f k l) (cases_of e k l) first_op second_op))
+      IsKept 9 (2 + 2 * function_atoms e + 2 * function_atoms f)
+      (ask_goal f (unless_taken_back (cases_of f k l) (cases_of e k l) first_op second_op))
   taken_back_kept =
-      subst (λ g. IsKept 9 (2 + 2 * function_atoms e + 2 * function_atoms f) (ask_goal f g)) (sym (one_goal e l second_op f k (cases_of f k l)))
-      (subst (λ p. IsKept 9 (2 + 2 * function_atoms e + 2 * function_atoms f) p)
-      (sym (back_asked f f first_op second_op k l (there_by e l first_op second_op) (kind_of_named k A) (kind_of_named l B)))
-      (result 9 (2 + 2 * function_atoms e) 0 f first_op second_op (λ x. ask_goal f (there_by e l first_op second_op x)) (lit< tt) valid
-      (lit≤ tt) first_stands second_stands (undefined_kept (2 + 2 * function_atoms e)) (λ there stands. back_kept there (sym_kind there) refl stands)))
+      subst (λ g. IsKept 9 (2 + 2 * function_atoms e + 2 * function_atoms f) (ask_goal f g)) (sym (one_goal e l
+      second_op f k (cases_of f k l))) (subst (λ p. IsKept 9 (2 + 2 * function_atoms e + 2 * function_atoms f) p)
+      (sym (back_asked f f first_op second_op k l (there_by e l first_op second_op)
+      (kind_of_named k A) (kind_of_named l B)))
+      (result 9 (2 + 2 * function_atoms e) 0 f first_op second_op
+      (λ x. ask_goal f (there_by e l first_op second_op x)) (lit< tt) valid
+      (lit≤ tt) first_stands second_stands (undefined_kept (2 + 2 * function_atoms e))
+      (λ there stands. back_kept there (sym_kind there) refl stands)))
 
   enabled_kept :
       (m : ℕ) (o : SymOp) (next : GoalTree) → OpStands (IsBelow 9) 0 o → IsKept 9 m (ask_goal f next)
@@ -132,9 +142,11 @@ module _ (named : StandsNamed) (comparison : KeepsComparison) (enabled : KeepsEn
   unfolding ask_goal
   enabled_kept m o next stands kept =
       subst (λ p. IsKept 9 (m + 2) p) (sym (ask_form-enabled_form o (pos 0) (ask_goal f next) plans.Holds))
-      (enabled 9 m o (pos 0) (ask_goal f next) plans.Holds (lit< tt) near_499 (op_wider 0 499 o wider_0_499 stands) kept (holds_kept m))
+      (enabled 9 m o (pos 0) (ask_goal f next) plans.Holds (lit< tt) near_499
+      (op_wider 0 499 o wider_0_499 stands) kept (holds_kept m))
 
-  length_kept : (m : ℕ) (next : GoalTree) → IsKept 9 m (ask_goal f next) → IsKept 9 (m + 1) (ask_goal f (if_length next))
+  length_kept : (m : ℕ) (next : GoalTree) → IsKept 9 m (ask_goal f next)
+      → IsKept 9 (m + 1) (ask_goal f (if_length next))
   unfolding ask_goal ask_form ask_le ask_lt ask_eq
   length_kept m next kept =
       comparison 9 m Pos zero_place (length_and (pos 0)) (ask_goal f next) plans.Holds (lit< tt)
@@ -142,7 +154,8 @@ module _ (named : StandsNamed) (comparison : KeepsComparison) (enabled : KeepsEn
       (record { is = refl; free = lit< tt; steady = tt; near = near_zero }) kept (holds_kept m)
 
   allowed_kept :
-      (m : ℕ) (next : GoalTree) → IsKept 9 m (ask_goal f next) → IsKept 9 (m + 4) (ask_goal f (if_allowed f.head first_op second_op next))
+      (m : ℕ) (next : GoalTree) → IsKept 9 m (ask_goal f next)
+      → IsKept 9 (m + 4) (ask_goal f (if_allowed f.head first_op second_op next))
   allowed_kept m next kept =
       subst (λ p. IsKept 9 (m + 4) p) (sym (ask_goal-if_allowed f first_op second_op next))
       (allowed 9 m 0 f.head first_op second_op (ask_goal f next) (lit< tt) first_stands second_stands kept)

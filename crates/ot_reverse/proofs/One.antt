@@ -6,7 +6,7 @@ use Rattle.ot_terms.specs.Goals.{GoalTree}
 use Rattle.ot_audit.specs.declared.found.Sought.{Sought}
 use Rattle.ot_audit.specs.declared.found.Sought.TheVariants as sought
 use Rattle.ot_audit.specs.Findings.{IsSoughtIn}
-use Rattle.audit_answers.specs.declared.back.Back.{Back}
+use Rattle.ot_audit.specs.declared.back.Back.{Back}
 use Rattle.ot_reverse.specs.Answers.{AreSearched, GoesOnUnlessFound}
 use Rattle.ot_reverse.specs.Goals.{reversal_goal}
 
@@ -17,14 +17,17 @@ OneSought =
     → IsSoughtIn f k l g budget other → one ≡ other
 
 goes_once :
-    (f e : Function) (found : Sought) (Behind : Back → Type 0) → ((one other : Back) → Behind one → Behind other → one ≡ other)
-    → (one other : Back) → GoesOnUnlessFound f e found Behind one → GoesOnUnlessFound f e found Behind other → one ≡ other
+    (f e : Function) (found : Sought) (Behind : Back → Type 0)
+    → ((one other : Back) → Behind one → Behind other → one ≡ other)
+    → (one other : Back) → GoesOnUnlessFound f e found Behind one
+    → GoesOnUnlessFound f e found Behind other → one ≡ other
 goes_once f e sought.Nowhere Behind once one other is so = once one other is so
 goes_once f e (sought.At cells a b) Behind once one other is so = is ∙ sym so
 goes_once f e sought.Spent Behind once one other is so = is ∙ sym so
 
 pub pairs_once :
-    OneSought → (f e : Function) (budget : ℕ) (pairs : List (Kind × Kind)) (one other : Back) → AreSearched f e budget pairs one
+    OneSought → (f e : Function) (budget : ℕ) (pairs : List (Kind × Kind)) (one other : Back)
+    → AreSearched f e budget pairs one
     → AreSearched f e budget pairs other → one ≡ other
 pairs_once one_sought f e budget [] one other is so = is ∙ sym so
 pairs_once one_sought f e budget (pair ∷ pairs) one other (found, is, goes) (another, so, also) =

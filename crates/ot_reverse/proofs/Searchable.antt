@@ -1,5 +1,6 @@
 -- The goals may be searched: they keep the limits, and no position is negative that answers to a failing end speak of.
-use Rattle.std.proofs.Common.{◌≡◌, ℕ, ℤ, pos, negsuc, ◌+ℤ◌, ◌≤ℤ◌, int_le, true, Option, Some, List, [], ◌∷◌, sym, ◌∙◌, arith, lit<, lit≤}
+use Rattle.std.proofs.Common.{◌≡◌, ℕ, ℤ, pos, negsuc, ◌+ℤ◌, ◌≤ℤ◌, int_le, true, Option, Some, List, [], ◌∷◌, sym, ◌∙◌}
+use Rattle.std.proofs.Common.{arith, lit<, lit≤}
 use Rattle.std.specs.List.{AllByRecursion}
 use Rattle.std.proofs.lemmas.Int.{ints}
 use Rattle.diff_graph.specs.declared.lit.Lit.{Lit}
@@ -25,7 +26,8 @@ use Rattle.ot_terms.specs.Standing.{ask_form, ask_goal}
 use Rattle.ot_terms.specs.Starting.{if_all_enabled, if_allowed, if_enabled, if_length}
 use Rattle.ot_audit.specs.Searchable.{IsSearchable}
 use Rattle.ot_audit.proofs.Ends.{EndsAtMost, le_true, some_passed}
-use Rattle.ot_audit.proofs.Names.{GoalOf, IsSmallPlace, OfName, asks_goal, name_serves, parts_small, small_name, small_zero, spoken}
+use Rattle.ot_audit.proofs.Names.{GoalOf, IsSmallPlace, OfName, asks_goal, name_serves, parts_small, small_name}
+use Rattle.ot_audit.proofs.Names.{small_zero, spoken}
 use Rattle.ot_audit.proofs.Searchable.{EndsThere, FineKept, LikeKept, NotNegative}
 use Rattle.ot_reverse.specs.Goals.{reversal_goal, unless_taken_back}
 use Rattle.ot_reverse.proofs.Named.{OpServesTwice, first_twice, op_serves_twice, posed_of, second_twice, taken_back_of}
@@ -40,7 +42,8 @@ module _ (at_most : EndsAtMost) (f : Function) (v : ℕ → ℤ) (z : v zero_nam
       let zero : v 0 ≡ pos 0 = z in
       omega (arith, ints)
 
-  length_passed : (next : GoalTree) (why : Why) → ended (if_length next) ≡ Some why → (pos 0 ≤ℤ v length_name) × (ended next ≡ Some why)
+  length_passed : (next : GoalTree) (why : Why) → ended (if_length next) ≡ Some why
+      → (pos 0 ≤ℤ v length_name) × (ended next ≡ Some why)
   unfolding ask_goal ask_form ask_le ask_lt ask_eq
   length_passed next why failed =
       let both =
@@ -62,7 +65,8 @@ module _ (at_most : EndsAtMost) (f : Function) (v : ℕ → ℤ) (z : v zero_nam
 
   end_passed :
       (who : Who) (next : GoalTree) (why : Why)
-      → end_of (ask_form (Le (place (position_name who) (pos 0)) (length_and (pos 0))) (ask_goal f next) plans.Holds) v ≡ Some why
+      → end_of (ask_form (Le (place (position_name who) (pos 0)) (length_and (pos 0))) (ask_goal f next) plans.Holds) v
+      ≡ Some why
       → ended next ≡ Some why
   unfolding ask_form ask_le ask_lt ask_eq
   end_passed who next why failed =
@@ -72,7 +76,8 @@ module _ (at_most : EndsAtMost) (f : Function) (v : ℕ → ℤ) (z : v zero_nam
 
   cell_passed :
       (who : Who) (next : GoalTree) (why : Why)
-      → end_of (ask_form (Lt (place (position_name who) (pos 0)) (length_and (pos 0))) (ask_goal f next) plans.Holds) v ≡ Some why
+      → end_of (ask_form (Lt (place (position_name who) (pos 0)) (length_and (pos 0))) (ask_goal f next) plans.Holds) v
+      ≡ Some why
       → ended next ≡ Some why
   unfolding ask_form ask_lt ask_le ask_eq
   cell_passed who next why failed =
@@ -86,13 +91,16 @@ module _ (at_most : EndsAtMost) (f : Function) (v : ℕ → ℤ) (z : v zero_nam
       → (pos 0 ≤ℤ v (position_name who)) × (ended next ≡ Some why)
   unfolding ask_goal ask_form ask_le ask_lt ask_eq
   enabled_passed kinds.Ins who next why failed =
-      let first = first_passed who (ask_form (Le (place (position_name who) (pos 0)) (length_and (pos 0))) (ask_goal f next) plans.Holds) why failed in
+      let first = first_passed who (ask_form (Le (place (position_name who) (pos 0)) (length_and (pos 0)))
+      (ask_goal f next) plans.Holds) why failed in
       (first.0, end_passed who next why first.1)
   enabled_passed kinds.Del who next why failed =
-      let first = first_passed who (ask_form (Lt (place (position_name who) (pos 0)) (length_and (pos 0))) (ask_goal f next) plans.Holds) why failed in
+      let first = first_passed who (ask_form (Lt (place (position_name who) (pos 0)) (length_and (pos 0)))
+      (ask_goal f next) plans.Holds) why failed in
       (first.0, cell_passed who next why first.1)
   enabled_passed kinds.Upd who next why failed =
-      let first = first_passed who (ask_form (Lt (place (position_name who) (pos 0)) (length_and (pos 0))) (ask_goal f next) plans.Holds) why failed in
+      let first = first_passed who (ask_form (Lt (place (position_name who) (pos 0)) (length_and (pos 0)))
+      (ask_goal f next) plans.Holds) why failed in
       (first.0, cell_passed who next why first.1)
 
   positions_passed :
@@ -105,7 +113,8 @@ module _ (at_most : EndsAtMost) (f : Function) (v : ℕ → ℤ) (z : v zero_nam
       let second = enabled_passed l B next why first.1 in
       (length.0, first.0, second.0)
 
-module _ (f e : Function) (k l : Kind) (near : AllByRecursion IsNearCase (cases_of f k l)) (other_near : AllByRecursion IsNearCase (cases_of e k l)) where
+module _ (f e : Function) (k l : Kind) (near : AllByRecursion IsNearCase (cases_of f k l))
+    (other_near : AllByRecursion IsNearCase (cases_of e k l)) where
   -- what holds of all names of positions, and of all names of sites and characters, holds of the goal's places
   named_goal :
       (P : ℕ → Type 0) → P 0 → P 1 → OpServesTwice (OfName P) (sym_op k A) → OpServesTwice (OfName P) (sym_op l B)
@@ -113,25 +122,28 @@ module _ (f e : Function) (k l : Kind) (near : AllByRecursion IsNearCase (cases_
   named_goal P zero length ha hb =
       posed_of (OfName P) (name_serves P 0 zero) length f.head k l
       (unless_taken_back (cases_of f k l) (cases_of e k l) (sym_op k A) (sym_op l B)) ha hb
-      (taken_back_of (OfName P) (name_serves P 0 zero) length (sym_op k A) (sym_op l B) ha hb (cases_of f k l) (cases_of e k l) near other_near)
+      (taken_back_of (OfName P) (name_serves P 0 zero) length (sym_op k A) (sym_op l B) ha hb (cases_of f k l)
+      (cases_of e k l) near other_near)
 
   small_goal : GoalOf IsSmallPlace (reversal_goal f e k l)
   small_goal =
       posed_of IsSmallPlace small_zero (small_name 1 (lit< tt)).0 f.head k l
       (unless_taken_back (cases_of f k l) (cases_of e k l) (sym_op k A) (sym_op l B)) (first_twice k) (second_twice l)
-      (taken_back_of IsSmallPlace small_zero (small_name 1 (lit< tt)).0 (sym_op k A) (sym_op l B) (first_twice k) (second_twice l)
-      (cases_of f k l) (cases_of e k l) near other_near)
+      (taken_back_of IsSmallPlace small_zero (small_name 1 (lit< tt)).0 (sym_op k A) (sym_op l B) (first_twice k)
+      (second_twice l) (cases_of f k l) (cases_of e k l) near other_near)
 
   module _ (at_most : EndsAtMost) (ends : EndsThere) where
     -- no position is negative that answers to a failing end speak of
     no_negative :
-        (why : Why) (w : List Lit) (v : ℕ → ℤ) → LeadTo why (ask_goal f (reversal_goal f e k l)) w → v zero_name ≡ pos 0 → AreMet v w
+        (why : Why) (w : List Lit) (v : ℕ → ℤ) → LeadTo why (ask_goal f (reversal_goal f e k l)) w
+        → v zero_name ≡ pos 0 → AreMet v w
         → HasNoNegativePosition w v
     no_negative why w v lead z met x sort named =
         let last =
         if_allowed f.head (sym_op k A) (sym_op l B)
         (unless_taken_back (cases_of f k l) (cases_of e k l) (sym_op k A) (sym_op l B)) in
-        let low = positions_passed at_most f v z k l last why (ends v why (ask_goal f (reversal_goal f e k l)) w lead met) in
+        let low = positions_passed at_most f v z k l last why
+        (ends v why (ask_goal f (reversal_goal f e k l)) w lead met) in
         let zero : NotNegative v 0 = λ s. omega (arith, ints) in
         let whole =
         named_goal (NotNegative v) zero (λ s. low.0)

@@ -1,6 +1,6 @@
 -- What the searches of goals say of all documents.
-use Rattle.std.proofs.Common.{◌≡◌, ℕ, ℤ, pos, Bool, true, false, Option, Some, None, List, [], ◌∷◌, length, MatchOption, refl, sym, subst, inl, inr, ◌&&◌}
-use Rattle.std.proofs.Common.{if◌then◌else◌}
+use Rattle.std.proofs.Common.{◌≡◌, ℕ, ℤ, pos, Bool, true, false, Option, Some, None, List, [], ◌∷◌, length, MatchOption}
+use Rattle.std.proofs.Common.{refl, sym, subst, inl, inr, ◌&&◌, if◌then◌else◌}
 use Rattle.std.specs.Prelude.{filter}
 use Rattle.std.specs.List.{AllByRecursion, Contains}
 use Rattle.std.proofs.lemmas.Bool.{cases_Bool}
@@ -32,8 +32,8 @@ use Rattle.ot_audit.specs.declared.found.Sought.TheVariants as sought
 use Rattle.ot_audit.specs.Findings.{IsLeastInstance, IsSoughtIn}
 use Rattle.ot_audit.proofs.Everywhere.{of_kept}
 use Rattle.ot_audit.proofs.Telling.{HaveNames, ListsTell, NamesStand, ended, least_named, none_fails}
-use Rattle.audit_answers.specs.declared.back.Back.{Back}
-use Rattle.audit_answers.specs.declared.back.Back.TheVariants.{Yes, No, Spent}
+use Rattle.ot_audit.specs.declared.back.Back.{Back}
+use Rattle.ot_audit.specs.declared.back.Back.TheVariants.{Yes, No, Spent}
 use Rattle.ot_reverse.specs.Answers.{AreSearched, GoesOnUnlessFound, TellsReversal}
 use Rattle.ot_reverse.specs.Goals.{reversal_goal}
 use Rattle.ot_reverse.specs.Reversal.{IsTakenBack, Reverses}
@@ -42,7 +42,8 @@ use Rattle.ot_reverse.specs.Reversal.{IsTakenBack, Reverses}
 abbrev pub ReversalSought : Type 0
 ReversalSought =
     (f e : Function) (k l : Kind) (v : ℕ → ℤ) (d : List Cell) (a b : Op) (why : Why) → NamesPair f k l v (length d) a b
-    → end_of (ask_goal f (reversal_goal f e k l)) v ≡ Some why → AreConcurrent f d (a ∷ b ∷ []) × (IsTakenBack f e a b → ⊥)
+    → end_of (ask_goal f (reversal_goal f e k l)) v ≡ Some why
+    → AreConcurrent f d (a ∷ b ∷ []) × (IsTakenBack f e a b → ⊥)
 
 abbrev pub ReversalHeld : Type 0
 ReversalHeld =
@@ -75,7 +76,8 @@ pair_named names f k l n a b declared first second =
 -- the least values name the instance that is read off them
 least_pair :
     NamesStand → (f : Function) (k l : Kind) (w : List Lit) (cells : ℕ) (a b : Op) → is_declared_pair f.head k l ≡ true
-    → (is : IsLeastInstance k l w cells a b) → NamesPair f k l (valuation_of is.ops.values) (length (live_cells cells)) a b
+    → (is : IsLeastInstance k l w cells a b)
+    → NamesPair f k l (valuation_of is.ops.values) (length (live_cells cells)) a b
 least_pair stand f k l w cells a b declared is =
     let two = least_named stand k l w a b is.ops in
     let count : length (live_cells cells) ≡ cells = length-replicate cells (live_cell 121) in
@@ -86,12 +88,14 @@ least_pair stand f k l w cells a b declared is =
 -- the failing end at which a search stops
 end_sought :
     (k l : Kind) (p : Plan Why) (o : Option (FailingEnd Why)) (cells : ℕ) (a b : Op)
-    → MatchOption o (HoldsEverywhere p) (λ e. FailsAt p e) → MatchOption o ⊥ (λ e. IsLeastInstance k l e.answers cells a b)
+    → MatchOption o (HoldsEverywhere p) (λ e. FailsAt p e)
+    → MatchOption o ⊥ (λ e. IsLeastInstance k l e.answers cells a b)
     → (e : FailingEnd Why) × FailsAt p e × IsLeastInstance k l e.answers cells a b
 end_sought k l p None cells a b tells is = absurd is
 end_sought k l p (Some e) cells a b tells is = (e, tells, is)
 
-module _ (stand : NamesStand) (names : HaveNames) (tell : ListsTell) (means : ReversalSought) (held : ReversalHeld) (f e : Function) (budget : ℕ) where
+module _ (stand : NamesStand) (names : HaveNames) (tell : ListsTell) (means : ReversalSought) (held : ReversalHeld)
+    (f e : Function) (budget : ℕ) where
   -- where an instance is found, its operations are concurrent and the first is not taken back
   pub instance_told :
       (k l : Kind) (cells : ℕ) (a b : Op) → is_declared_pair f.head k l ≡ true
@@ -112,7 +116,8 @@ module _ (stand : NamesStand) (names : HaveNames) (tell : ListsTell) (means : Re
       → IsTakenBack f e a b
 
   nowhere_told :
-      (k l : Kind) → is_declared_pair f.head k l ≡ true → IsSoughtIn f k l (reversal_goal f e k l) budget sought.Nowhere → HoldsOn (k, l)
+      (k l : Kind) → is_declared_pair f.head k l ≡ true
+      → IsSoughtIn f k l (reversal_goal f e k l) budget sought.Nowhere → HoldsOn (k, l)
   nowhere_told k l declared found = λ d a b first second concurrent.
       let p = ask_goal f (reversal_goal f e k l) in
       let named = pair_named names f k l (length d) a b declared first second in
@@ -125,14 +130,16 @@ module _ (stand : NamesStand) (names : HaveNames) (tell : ListsTell) (means : Re
   TellsOn pairs (No doc a b there back) = TellsReversal f e (No doc a b there back)
   TellsOn pairs Spent = Unit {0}
 
-  one_more : (pair : Kind × Kind) (pairs : List (Kind × Kind)) (answer : Back) → HoldsOn pair → TellsOn pairs answer → TellsOn (pair ∷ pairs) answer
+  one_more : (pair : Kind × Kind) (pairs : List (Kind × Kind)) (answer : Back) → HoldsOn pair → TellsOn pairs answer
+      → TellsOn (pair ∷ pairs) answer
   one_more pair pairs Yes here others = (here, others)
   one_more pair pairs (No doc a b there back) here others = others
   one_more pair pairs Spent here others = others
 
   -- one more pair of kinds: what is found of it, and what is told of the others
   goes_told :
-      (pair : Kind × Kind) (pairs : List (Kind × Kind)) (found : Sought) (answer : Back) → is_declared_of f.head pair ≡ true
+      (pair : Kind × Kind) (pairs : List (Kind × Kind)) (found : Sought) (answer : Back)
+      → is_declared_of f.head pair ≡ true
       → IsSoughtIn f pair.0 pair.1 (reversal_goal f e pair.0 pair.1) budget found
       → (AreSearched f e budget pairs answer → TellsOn pairs answer)
       → GoesOnUnlessFound f e found (AreSearched f e budget pairs) answer → TellsOn (pair ∷ pairs) answer
@@ -141,7 +148,8 @@ module _ (stand : NamesStand) (names : HaveNames) (tell : ListsTell) (means : Re
   goes_told pair pairs (sought.At cells a b) answer declared is others goes =
       let at = instance_told pair.0 pair.1 cells a b declared is in
       subst (λ (x : Back). TellsOn (pair ∷ pairs) x) (sym goes) (at.0, at.1, refl, refl)
-  goes_told pair pairs sought.Spent answer declared is others goes = subst (λ (x : Back). TellsOn (pair ∷ pairs) x) (sym goes) tt
+  goes_told pair pairs sought.Spent answer declared is others goes =
+      subst (λ (x : Back). TellsOn (pair ∷ pairs) x) (sym goes) tt
 
   pairs_told :
       (pairs : List (Kind × Kind)) (answer : Back) → AllByRecursion (λ pair. is_declared_of f.head pair ≡ true) pairs
@@ -151,7 +159,8 @@ module _ (stand : NamesStand) (names : HaveNames) (tell : ListsTell) (means : Re
       goes_told pair pairs found answer declared.0 is (pairs_told pairs answer declared.1) goes
 
 -- an operation of the function's kinds has one of them
-declared_kind : (head : Head) (o : Option Kind) → has_declared_kind head o ≡ true → (k : Kind) × (o ≡ Some k) × (is_declared head k ≡ true)
+declared_kind : (head : Head) (o : Option Kind) → has_declared_kind head o ≡ true
+    → (k : Kind) × (o ≡ Some k) × (is_declared head k ≡ true)
 declared_kind head None declared = absurd (cc)
 declared_kind head (Some k) declared = (k, refl, declared)
 
@@ -165,9 +174,11 @@ pub all_kept : {X : Type 0} (p : X → Bool) (xs : List X) → AllByRecursion (�
 all_kept p [] = tt
 all_kept {X = X} p (x ∷ xs) = elim (cases_Bool (p x)) [
   | inl kept ↦
-      subst (λ b. AllByRecursion (λ y. p y ≡ true) (if b then x ∷ filter p xs else filter p xs)) (sym kept) (kept, all_kept p xs)
+      subst (λ b. AllByRecursion (λ y. p y ≡ true) (if b then x ∷ filter p xs else filter p xs))
+      (sym kept) (kept, all_kept p xs)
   | inr dropped ↦
-      subst (λ b. AllByRecursion (λ y. p y ≡ true) (if b then x ∷ filter p xs else filter p xs)) (sym dropped) (all_kept p xs)
+      subst (λ b. AllByRecursion (λ y. p y ≡ true) (if b then x ∷ filter p xs else filter p xs))
+      (sym dropped) (all_kept p xs)
 ]
 
 module _ (stand : NamesStand) (names : HaveNames) (tell : ListsTell) (means : ReversalSought) (held : ReversalHeld)
@@ -183,13 +194,16 @@ module _ (stand : NamesStand) (names : HaveNames) (tell : ListsTell) (means : Re
       let second = declared_kind f.head (kind_of b) concurrent.3.0 in
       of_contained (λ pair. is_declared_of f.head pair ≡ true → HoldsOf pair) kind_pairs (first.0, second.0)
       (of_kept (is_declared_of f.head) HoldsOf kind_pairs all) (listed first.0 second.0)
-      (both_pass (is_declared f.head first.0) (is_declared f.head second.0) first.2 second.2) d a b first.1 second.1 concurrent
+      (both_pass (is_declared f.head first.0) (is_declared f.head second.0) first.2 second.2) d a b
+      first.1 second.1 concurrent
 
   pub whole_told : (answer : Back) → AreSearched f e budget (declared_pairs f.head) answer → TellsReversal f e answer
   whole_told answer is =
-      by_answer answer (pairs_told stand names tell means held f e budget (declared_pairs f.head) answer (all_kept (is_declared_of f.head) kind_pairs) is)
+      by_answer answer (pairs_told stand names tell means held f e budget (declared_pairs f.head) answer
+      (all_kept (is_declared_of f.head) kind_pairs) is)
     where
-      by_answer : (x : Back) → TellsOn stand names tell means held f e budget (declared_pairs f.head) x → TellsReversal f e x
+      by_answer : (x : Back)
+          → TellsOn stand names tell means held f e budget (declared_pairs f.head) x → TellsReversal f e x
       by_answer Yes told = reverses_of told
       by_answer (No doc a b there back) told = told
       by_answer Spent told = tt

@@ -10,8 +10,8 @@ use Rattle.ot_values.specs.Values.{live_cells}
 use Rattle.ot_audit.specs.declared.found.Sought.{Sought}
 use Rattle.ot_audit.specs.declared.found.Sought.TheVariants as sought
 use Rattle.ot_audit.specs.Findings.{IsSoughtIn}
-use Rattle.audit_answers.specs.declared.back.Back.{Back}
-use Rattle.audit_answers.specs.declared.back.Back.TheVariants.{Yes, No, Spent}
+use Rattle.ot_audit.specs.declared.back.Back.{Back}
+use Rattle.ot_audit.specs.declared.back.Back.TheVariants.{Yes, No, Spent}
 use Rattle.ot_reverse.specs.Goals.{reversal_goal}
 use Rattle.ot_reverse.specs.Reversal.{IsTakenBack, Reverses, back_of}
 

@@ -16,7 +16,7 @@ ghost use Rattle.ot_questions.specs.declared.why.Why.{Why};
 ghost use Rattle.ot_questions.specs.Instances.{NamesPair};
 ghost use Rattle.ot_terms.specs.Standing.{ask_goal};
 ghost use Rattle.ot_values.specs.Values.{live_cells};
-ghost use Rattle.audit_answers.specs.declared.back.Back.{Back};
+ghost use Rattle.ot_audit.specs.declared.back.Back.{Back};
 ghost use Rattle.ot_reverse.specs.Answers.{AreSearched, TellsReversal};
 ghost use Rattle.ot_reverse.specs.Goals.{reversal_goal};
 ghost use Rattle.ot_reverse.specs.Reversal.{IsTakenBack};

@@ -14,10 +14,10 @@ mod laws;
 mod reversing;
 
 pub use ask_core::NoMemory;
-pub use audit_answers::Back;
 pub use goals::reversal_goal;
 pub use laws::{
     answers_are_one, answers_tell_of_all_documents, goals_are_searchable,
     goals_fail_where_nothing_comes_back,
 };
+pub use ot_audit::Back;
 pub use reversing::{are_alike, reverses};

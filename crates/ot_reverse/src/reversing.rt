@@ -8,7 +8,7 @@ ghost use Rattle.fn_rules.specs.Rules.{function_of};
 ghost use Rattle.fn_rules.specs.Transformation.{transform_of};
 ghost use Rattle.ot_audit.specs.Findings.{IsNearSought, IsSoughtIn};
 ghost use Rattle.ot_values.specs.Values.{farthest, live_cells};
-ghost use Rattle.audit_answers.specs.declared.back.Back.TheVariants.{No};
+ghost use Rattle.ot_audit.specs.declared.back.Back.TheVariants.{No};
 ghost use Rattle.ot_reverse.specs.Answers.{AreSearched, IsReversedAs};
 ghost use Rattle.ot_reverse.specs.Goals as goals;
 ghost use Rattle.ot_reverse.specs.Reversal.{AreAlike, back_of};
@@ -16,13 +16,12 @@ ghost use Rattle.ot_reverse.specs.Reversal.{AreAlike, back_of};
 use crate::goals::reversal_goal;
 use crate::laws::{answers_tell_of_all_documents, goals_are_searchable};
 use ask_core::NoMemory;
-use audit_answers::Back;
 use bumpalo::Bump;
 use fn_rules::{
     Head, Rules, blocks, rules_are_valid, transform, transform_keeps_all_but_the_position,
     transform_stays_near,
 };
-use ot_audit::{Sought, seek};
+use ot_audit::{Back, Sought, seek};
 use ot_model::{Kind, Op};
 use ot_values::live_document;
 use std::alloc::Global;

@@ -1,5 +1,6 @@
 -- What a step in reading a cell keeps.
-use Rattle.std.proofs.Common.{◌≡◌, ℕ, ◌+◌, ◌<◌, ◌≤◌, pos, negsuc, ◌+ℤ◌, Option, Some, None, option_map, length, refl, ap, sym, subst, arith}
+use Rattle.std.proofs.Common.{◌≡◌, ℕ, ◌+◌, ◌<◌, ◌≤◌, pos, negsuc, ◌+ℤ◌, Option, Some, None, option_map, length, refl}
+use Rattle.std.proofs.Common.{ap, sym, subst, arith}
 use Rattle.std.proofs.lemmas.Int.{ints}
 use Rattle.std.specs.Option.{option_or}
 use Rattle.ot_model.specs.declared.op.Mode.{Mode}
@@ -68,7 +69,8 @@ module _ (d : DocTree) (at j : Place) (here : j.var ≡ 2) (go : Finished → Pl
 
   cut_asked :
       (mode : Mode) → mode ≡ Plain
-      → ask_read mode (If (forms.Lt j at) (At d j) (At d (plus j (pos 1)))) go ≡ ask_read mode (At (documents.Cut d at) j) go
+      → ask_read mode (If (forms.Lt j at) (At d j) (At d (plus j (pos 1)))) go
+      ≡ ask_read mode (At (documents.Cut d at) j) go
   unfolding ask_read ask_cell ask_form ask_le ask_lt ask_eq
   cut_asked Plain is =
       ap (λ x. ask_lt x at (ask_cell Plain (changes_of d) j.off go) (ask_cell Plain (changes_of d) (j.off +ℤ pos 1) go))
@@ -105,7 +107,8 @@ module _ (d : DocTree) (at j : Place) (here : j.var ≡ 2) (go : Finished → Pl
       (sym (index_place j here))
 
 -- the places of a document before its last change
-module _ (count : ℕ) (some : 2 < count) (d e : DocTree) (j : Place) (longer : length (changes_of e) ≡ length (changes_of d) + 1)
+module _ (count : ℕ) (some : 2 < count) (d e : DocTree) (j : Place)
+    (longer : length (changes_of e) ≡ length (changes_of d) + 1)
     (h : IsIndexOf e j) where
   IsPlace-index : IsPlace count j
   IsPlace-index = record { name = omega arith; near = record { low = omega (arith, ints); high = omega (arith, ints) } }
@@ -136,7 +139,8 @@ module _ (count : ℕ) (some : 2 < count) (d e : DocTree) (j : Place) (longer : 
 
 module _ (mode : Mode) (count : ℕ) (some : 2 < count) where
   -- the cell that a step names is the one that it gives
-  step_given : (old named got : CellTree) → Some named ≡ Some got → IsStep mode count old named → IsStep mode count old got
+  step_given : (old named got : CellTree) → Some named ≡ Some got → IsStep mode count old named
+      → IsStep mode count old got
   step_given old named got e h = let same : named ≡ got = cc in subst (IsStep mode count old) same h
 
   -- a step by the last change of a document gives a cell that is the same and is of the mode
@@ -147,13 +151,18 @@ module _ (mode : Mode) (count : ℕ) (some : 2 < count) where
   change_step (documents.Put d at ch) j got e h =
       let old = documents.Put d at ch in
       let at_index : IsPlace count j = IsPlace-index count some d old j (omega arith) h.1 in
-      step_given (At old j) (If (forms.Lt j at) (At d j) (If (forms.Le j at) (Char ch) (At d (plus j (negsuc 0))))) got e
+      step_given (At old j) (If (forms.Lt j at) (At d j) (If (forms.Le j at) (Char ch) (At d (plus j (negsuc 0))))) got
+      e
       (record {
         asked = λ go. put_asked d at j h.1.name go mode ch;
         kept = (
           (at_index, h.0.0),
           (h.0.2, IsIndexOf-same count some d old j (omega arith) h.1),
-          ((at_index, IsPlace-lowerable count at h.0.0), h.0.1, (h.0.2, IsIndexOf-before count some d old j (omega arith) h.1)),
+          (
+            (at_index, IsPlace-lowerable count at h.0.0),
+            h.0.1,
+            (h.0.2, IsIndexOf-before count some d old j (omega arith) h.1),
+          ),
         );
         lighter = omega (arith, doc_weighs d);
       })
@@ -240,12 +249,14 @@ module _ (mode : Mode) (count : ℕ) (some : 2 < count) where
 
   -- a cell with another character, by the cell that it was, of which nothing is left to be read
   replace_step :
-      (ch : ℕ) (cell got : CellTree) → read_step cell ≡ None → replace ch cell ≡ Some got → IsCellOf mode count (Over ch cell)
+      (ch : ℕ) (cell got : CellTree) → read_step cell ≡ None → replace ch cell ≡ Some got
+      → IsCellOf mode count (Over ch cell)
       → IsStep mode count (Over ch cell) got
   unfolding read_step ask_read
   replace_step ch (At d at) got s e h = absurd (cc)
   replace_step ch (Char other) got s e h =
-      step_given (Over ch (Char other)) (Char ch) got e (record { asked = λ go. refl; kept = h.0; lighter = omega arith })
+      step_given (Over ch (Char other)) (Char ch) got e
+      (record { asked = λ go. refl; kept = h.0; lighter = omega arith })
   replace_step ch (Dead cell) got s e h =
       let inside = none_left (read_step cell) (bury cell) Dead s in
       step_given (Over ch (Dead cell)) (Dead (Char ch)) got e
@@ -258,8 +269,10 @@ module _ (mode : Mode) (count : ℕ) (some : 2 < count) where
       (record { asked = λ go. refl; kept = (h.1.0, (h.0, h.1.1), (h.0, h.1.2)); lighter = omega arith })
 
   dead_step :
-      (cell got : CellTree) (s : Option CellTree) → read_step cell ≡ s → option_or (option_map Dead s) (bury cell) ≡ Some got
-      → IsCellOf mode count cell → ((read : CellTree) → read_step cell ≡ Some read → IsCellOf mode count cell → IsStep mode count cell read)
+      (cell got : CellTree) (s : Option CellTree) → read_step cell ≡ s
+      → option_or (option_map Dead s) (bury cell) ≡ Some got
+      → IsCellOf mode count cell
+      → ((read : CellTree) → read_step cell ≡ Some read → IsCellOf mode count cell → IsStep mode count cell read)
       → IsStep mode count (Dead cell) got
   unfolding ask_read
   dead_step cell got (Some read) s e h step =
@@ -278,10 +291,15 @@ module _ (mode : Mode) (count : ℕ) (some : 2 < count) where
   over_step ch cell got (Some read) s e h step =
       let inside = step read s h.1 in
       step_given (Over ch cell) (Over ch read) got e
-      (record { asked = λ go. inside.asked (λ x. go (replaced_cell ch x)); kept = (h.0, inside.kept); lighter = omega arith })
+      (record {
+        asked = λ go. inside.asked (λ x. go (replaced_cell ch x));
+        kept = (h.0, inside.kept);
+        lighter = omega arith;
+      })
   over_step ch cell got None s e h step = replace_step ch cell got s e h
 
-  pub cell_step : (cell got : CellTree) → read_step cell ≡ Some got → IsCellOf mode count cell → IsStep mode count cell got
+  pub cell_step : (cell got : CellTree) → read_step cell ≡ Some got → IsCellOf mode count cell
+      → IsStep mode count cell got
   unfolding read_step
   cell_step (At d at) got e h = change_step d at got e h
   cell_step (Char ch) got e h = absurd (cc)

@@ -1,6 +1,6 @@
 -- The cases that are left of a block, and what a case gives.
-use Rattle.std.proofs.Common.{◌≡◌, ◌≢◌, ◌⊎◌, ℕ, zero, suc, ◌+◌, ◌<◌, ◌≤◌, Bool, true, false, if◌then◌else◌, nat_eq, IsTrue, Some, None, List, [], ◌∷◌, length}
-use Rattle.std.proofs.Common.{drop, refl, subst, inl, inr, arith}
+use Rattle.std.proofs.Common.{◌≡◌, ◌≢◌, ◌⊎◌, ℕ, zero, suc, ◌+◌, ◌<◌, ◌≤◌, Bool, true, false, if◌then◌else◌, nat_eq}
+use Rattle.std.proofs.Common.{IsTrue, Some, None, List, [], ◌∷◌, length, drop, refl, subst, inl, inr, arith}
 use Rattle.std.specs.List.{AllByRecursion}
 use Rattle.ot_model.specs.declared.op.Kind.{Kind}
 use Rattle.fn_rules.specs.declared.function.ObName.{ObName}
@@ -43,7 +43,8 @@ of_dropped P [] (suc n) h = h
 of_dropped P (x ∷ xs) (suc n) h = of_dropped P xs n h.1
 
 pub of_next :
-    {X : Type 0} (P : X → Type 0) (xs : List X) (n : ℕ) (y : X) (ys : List X) → AllByRecursion P xs → drop n xs ≡ y ∷ ys → P y
+    {X : Type 0} (P : X → Type 0) (xs : List X) (n : ℕ) (y : X) (ys : List X) → AllByRecursion P xs
+    → drop n xs ≡ y ∷ ys → P y
 of_next P xs n y ys h e = (subst (λ t. AllByRecursion P t) e (of_dropped P xs n h)).0
 
 -- each case of a valid function has small offsets
@@ -63,7 +64,8 @@ reach_high (Triple k l m) n = by_tests (nat_eq n 2) (nat_eq n 5)
 
 -- an operand is at most 99 from its name, and what comes of it is within the reach
 pub operand_reach_low : (ob : ObName) (n : ℕ) → operand_reach ob n ≤ 99
-operand_reach_low ob n = let high = reach_high ob n in let low : 99 ≤ reach_of ob n = high.0 in let most : reach_of ob n ≤ 198 = high.1 in omega arith
+operand_reach_low ob n = let high = reach_high ob n in let low : 99 ≤ reach_of ob n = high.0 in
+    let most : reach_of ob n ≤ 198 = high.1 in omega arith
 
 operand_reach_more : (ob : ObName) (n : ℕ) → operand_reach ob n + 99 ≡ reach_of ob n
 operand_reach_more ob n = let low : 99 ≤ reach_of ob n = (reach_high ob n).0 in omega arith
@@ -89,7 +91,8 @@ char_placed (ops.Del at site) to = refl
 char_placed (ops.Upd at ch site) to = refl
 char_placed ops.Nop to = refl
 
-names_placed : (count : ℕ) (a : SymOp) (to : Place) → HasNames count a → to.var < count → HasNames count (sym_placed a to)
+names_placed : (count : ℕ) (a : SymOp) (to : Place) → HasNames count a → to.var < count
+    → HasNames count (sym_placed a to)
 names_placed count (ops.Ins at ch site) to h below = (below, h.1, h.2)
 names_placed count (ops.Del at site) to h below = (below, h.1)
 names_placed count (ops.Upd at ch site) to h below = (below, h.1, h.2)

@@ -1,6 +1,6 @@
 -- The rule on a transformation: by the first of the cases that are left.
-use Rattle.std.proofs.Common.{◌≡◌, ◌⊎◌, ℕ, suc, ◌+◌, ◌<◌, ◌≤◌, max, IsTrue, Option, Some, None, List, [], ◌∷◌, length, drop, MatchOption, refl, ap, sym, ◌∙◌}
-use Rattle.std.proofs.Common.{subst, inl, arith}
+use Rattle.std.proofs.Common.{◌≡◌, ◌⊎◌, ℕ, suc, ◌+◌, ◌<◌, ◌≤◌, max, IsTrue, Option, Some, None, List, [], ◌∷◌, length}
+use Rattle.std.proofs.Common.{drop, MatchOption, refl, ap, sym, ◌∙◌, subst, inl, arith}
 use Rattle.ot_model.specs.declared.op.Kind.{Kind}
 use Rattle.fn_rules.specs.declared.function.ObName.{ObName}
 use Rattle.fn_rules.specs.Formulas.{Formula}
@@ -20,7 +20,8 @@ use Rattle.ot_terms.specs.declared.goal.GoalProgress.{GoalProgress}
 use Rattle.ot_terms.specs.Goals.{Choose}
 use Rattle.ot_terms.specs.Placing.{guard_form}
 use Rattle.ot_terms.specs.Standing.{ask_goal, ask_with, from_case, results_of}
-use Rattle.ot_terms.specs.Weights.{form_weight, compared_weight, guard_weight, cases_weight, cases_of_kinds, rest_weight, goal_weight}
+use Rattle.ot_terms.specs.Weights.{form_weight, compared_weight, guard_weight, cases_weight, cases_of_kinds}
+use Rattle.ot_terms.specs.Weights.{rest_weight, goal_weight}
 use Rattle.ot_terms.specs.Belonging.{HasParts, IsChoiceOf, IsMoved, IsNextResult, reach_of, next_operands}
 use Rattle.ot_terms.proofs.GuardForms.{ask_form_guard_form}
 use Rattle.ot_terms.proofs.GuardPlaces.{guard_form_has_places}
@@ -28,10 +29,11 @@ use Rattle.fn_rules.specs.declared.guard.Cmp.{Cmp}
 use Rattle.fn_rules.specs.declared.guard.Cmp.TheVariants as cmp
 use Rattle.ot_questions.specs.declared.place.Place.{Place}
 use Rattle.ot_terms.specs.Placing.{compared}
-use Rattle.goal_rules.specs.Table.{choose_case, choose_by_kinds, rewrite_choose}
+use Rattle.ot_rewrite.specs.Table.{choose_case, choose_by_kinds, rewrite_choose}
 use Rattle.ot_rewrite.proofs.Rewritings.{IsRewriting}
 use Rattle.ot_rewrite.proofs.Operands.{next_are_operands}
-use Rattle.ot_rewrite.proofs.ChosenCases.{drop_next, drop_within, of_next, AreNear-cases, some_names, result_moves, first_stays}
+use Rattle.ot_rewrite.proofs.ChosenCases.{drop_next, drop_within, of_next, AreNear-cases, some_names, result_moves}
+use Rattle.ot_rewrite.proofs.ChosenCases.{first_stays}
 
 compared_form_weight : (c : Cmp) (x y : Place) → form_weight (compared c x y) ≡ compared_weight c
 compared_form_weight cmp.Lt x y = refl
@@ -57,13 +59,14 @@ case_falls g w rest form before after e d h = omega arith
 
 -- what may come of the two operations of the next transformation may be the next result
 next_result :
-    (ob : ObName) (progress : GoalProgress) (a b r : SymOp) → next_operands ob progress.ops (results_of progress) ≡ Some (a, b)
+    (ob : ObName) (progress : GoalProgress) (a b r : SymOp)
+    → next_operands ob progress.ops (results_of progress) ≡ Some (a, b)
     → (r ≡ ops.Nop) ⊎ IsMoved (name_count ob) (reach_of ob (length (results_of progress))) a r
     → IsNextResult ob progress.ops (results_of progress) r
 next_result ob progress a b r next h =
     subst
-    (λ t. MatchOption t ⊥ (λ pair. (r ≡ ops.Nop) ⊎ IsMoved (name_count ob) (reach_of ob (length (results_of progress))) pair.0 r))
-    (sym next) h
+    (λ t. MatchOption t ⊥ (λ pair. (r ≡ ops.Nop)
+    ⊎ IsMoved (name_count ob) (reach_of ob (length (results_of progress))) pair.0 r)) (sym next) h
 
 -- of two operations of which neither is nop
 module _ (f : Function) (a b : SymOp) (k l : Kind) (there : sym_kind a ≡ Some k) (other : sym_kind b ≡ Some l) where
@@ -86,7 +89,8 @@ module _ (f : Function) (a b : SymOp) (k l : Kind) (there : sym_kind a ≡ Some 
   unfolding ask_goal
   asked_of_cases [] n progress e = refl
   asked_of_cases (c ∷ cs) n progress e =
-      ask_form_guard_form c.guard a b (ask_with f progress (sym_result c.res a b)) (ask_transform (from_case (suc n) f) a b (ask_with f progress))
+      ask_form_guard_form c.guard a b (ask_with f progress (sym_result c.res a b))
+      (ask_transform (from_case (suc n) f) a b (ask_with f progress))
       ∙ ap (λ p. ask_guard c.guard a b (ask_with f progress (sym_result c.res a b)) p)
       (ask_from_case (suc n) (ask_with f progress)
       ∙ ap (λ t. ask_first_result t a b (or_undefined (ask_with f progress))) (drop_next (f.cases k l) n c cs e))
@@ -97,8 +101,8 @@ module _ (f : Function) (a b : SymOp) (k l : Kind) (there : sym_kind a ≡ Some 
       → goal_weight f (choose_case cs n a b progress) < goal_weight f (Choose n a b progress)
   lighter_of_cases [] n progress e = omega arith
   lighter_of_cases (c ∷ cs) n progress e =
-      case_falls (guard_weight c.guard) (cases_weight cs) (rest_weight f progress) (form_weight (guard_form c.guard a b))
-      (cases_weight (drop n (cases_of_kinds f (sym_kind a) (sym_kind b))))
+      case_falls (guard_weight c.guard) (cases_weight cs) (rest_weight f progress)
+      (form_weight (guard_form c.guard a b)) (cases_weight (drop n (cases_of_kinds f (sym_kind a) (sym_kind b))))
       (cases_weight (drop (suc n) (cases_of_kinds f (sym_kind a) (sym_kind b))))
       (guard_form_weight c.guard a b)
       (ap (λ t. cases_weight (drop n t)) cases_by_kinds ∙ ap cases_weight e)
@@ -108,15 +112,18 @@ module _ (f : Function) (a b : SymOp) (k l : Kind) (there : sym_kind a ≡ Some 
   module _ (ob : ObName) (valid : IsTrue (is_valid f)) where
     -- the choice by the first case that is left has parts of the obligation
     parts_of_cases :
-        (cs : List GuardedCase) (n : ℕ) (progress : GoalProgress) → drop n (f.cases k l) ≡ cs → IsTrue (is_obligation f.head ob)
+        (cs : List GuardedCase) (n : ℕ) (progress : GoalProgress) → drop n (f.cases k l) ≡ cs
+        → IsTrue (is_obligation f.head ob)
         → IsChoiceOf f ob n a b progress → HasParts f ob (choose_case cs n a b progress)
     parts_of_cases [] n progress e d h = tt
     parts_of_cases (c ∷ cs) n progress e d h =
         let near : IsNearCase c = of_next IsNearCase (f.cases k l) n c cs (AreNear-cases f k l valid) e in
-        let both = next_are_operands f ob progress.ops (results_of progress) a b d h.progress.made h.progress.results h.next in
+        let both = next_are_operands f ob progress.ops (results_of progress) a b d h.progress.made
+        h.progress.results h.next in
         let some : 2 < name_count ob = some_names ob in
         let below : n < length (f.cases k l) = drop_within (f.cases k l) n c cs e in (
-          guard_form_has_places c.guard (name_count ob) a b near.0 (omega arith) both.0.names both.1.names h.a_near h.b_near,
+          guard_form_has_places c.guard (name_count ob) a b near.0 (omega arith) both.0.names
+              both.1.names h.a_near h.b_near,
           (
             h.progress,
             next_result ob progress a b (sym_result c.res a b) h.next
@@ -140,10 +147,12 @@ module _ (f : Function) (ob : ObName) (case : ℕ) (a b : SymOp) (progress : Goa
       → ask_goal f (choose_by_kinds f case a b ka kb progress) ≡ ask_goal f (Choose case a b progress)
   unfolding ask_goal ask_transform
   asked_of_kinds None kb there other =
-      ap (λ t. ask_result_by_kinds (from_case case f) a b t (sym_kind b) (or_undefined (ask_with f progress))) (sym there)
+      ap (λ t. ask_result_by_kinds (from_case case f) a b t (sym_kind b) (or_undefined (ask_with f progress)))
+      (sym there)
   asked_of_kinds (Some k) None there other =
       ap (λ t. ask_result_by_kinds (from_case case f) a b (Some k) t (or_undefined (ask_with f progress))) (sym other)
-      ∙ ap (λ t. ask_result_by_kinds (from_case case f) a b t (sym_kind b) (or_undefined (ask_with f progress))) (sym there)
+      ∙ ap (λ t. ask_result_by_kinds (from_case case f) a b t (sym_kind b) (or_undefined (ask_with f progress)))
+      (sym there)
   asked_of_kinds (Some k) (Some l) there other =
       asked_of_cases f a b k l there other (drop case (f.cases k l)) case progress refl
       ∙ sym (ask_from_case f a b k l there other case (ask_with f progress))
@@ -163,9 +172,11 @@ module _ (f : Function) (ob : ObName) (case : ℕ) (a b : SymOp) (progress : Goa
         → HasParts f ob (choose_by_kinds f case a b ka kb progress)
     parts_of_kinds None kb there other h = (h.progress, next_result ob progress a b ops.Nop h.next (inl refl))
     parts_of_kinds (Some k) None there other h =
-        let both = next_are_operands f ob progress.ops (results_of progress) a b d h.progress.made h.progress.results h.next in (
+        let both = next_are_operands f ob progress.ops (results_of progress) a b d h.progress.made
+        h.progress.results h.next in (
           h.progress,
-          next_result ob progress a b a h.next (first_stays f ob (length (results_of progress)) a b k there both.0 both.1),
+          next_result ob progress a b a h.next
+              (first_stays f ob (length (results_of progress)) a b k there both.0 both.1),
         )
     parts_of_kinds (Some k) (Some l) there other h =
         parts_of_cases f a b k l there other ob valid (drop case (f.cases k l)) case progress refl d h

@@ -1,5 +1,6 @@
 -- The goals behind the last transformation ask what the end of the obligation asks.
-use Rattle.std.proofs.Common.{◌≡◌, ℤ, pos, negsuc, ◌+ℤ◌, Bool, true, false, if◌then◌else◌, Option, Some, None, List, [], ◌∷◌, refl, ap, ◌∙◌}
+use Rattle.std.proofs.Common.{◌≡◌, ℤ, pos, negsuc, ◌+ℤ◌, Bool, true, false, if◌then◌else◌, Option, Some, None, List, []}
+use Rattle.std.proofs.Common.{◌∷◌, refl, ap, ◌∙◌}
 use Rattle.std.proofs.Math.Path.{fun_ext}
 use Rattle.std.specs.Ordering.{int_eq}
 use Rattle.ot_model.specs.declared.op.Kind.{Kind}
@@ -22,7 +23,7 @@ use Rattle.ot_terms.specs.Goals.{GoalTree, Fails}
 use Rattle.ot_terms.specs.Changes.{doc_of}
 use Rattle.ot_terms.specs.Standing.{ask_form, ask_read, ask_goal, changes_of}
 use Rattle.ot_terms.specs.Starting.{enabled_form}
-use Rattle.goal_rules.specs.Ends.{same_documents, same_lengths, both_ways, one_place, one_form}
+use Rattle.ot_rewrite.specs.Ends.{same_documents, same_lengths, both_ways, one_place, one_form}
 
 -- reading asks the changes of a document for no site, and nop is none of them
 ask_cell-changes :
@@ -52,8 +53,8 @@ ask_cell-changes Tomb (Del at site ∷ os) off go =
 ask_cell-changes mode (Upd at ch site ∷ os) off go =
     ap
     (λ p. ask_lt (index_and off) at p
-    (ask_le (index_and off) at (ask_cell mode (changes_of (doc_of mode os)) off (λ cell. go (replaced_cell ch cell))) p))
-    (ask_cell-changes mode os off go)
+    (ask_le (index_and off) at (ask_cell mode (changes_of (doc_of mode os)) off (λ cell. go (replaced_cell ch cell)))
+    p)) (ask_cell-changes mode os off go)
     ∙ ap
     (λ p. ask_lt (index_and off) at (ask_cell mode os off go) (ask_le (index_and off) at p (ask_cell mode os off go)))
     (ask_cell-changes mode os off (λ cell. go (replaced_cell ch cell)))
@@ -89,8 +90,10 @@ module _ (f : Function) where
   documents_ask left right off =
       let mode = f.head.mode in
       ap
-      (λ p. ask_le zero_place (index_and (pos 0)) (ask_lt (index_and (pos 0)) (length_and off) p plans.Holds) plans.Holds)
-      (ask_cell-changes mode left (pos 0) (λ x. ask_cell mode (changes_of (doc_of mode right)) (pos 0) (λ y. ask_same x y))
+      (λ p. ask_le zero_place (index_and (pos 0))
+      (ask_lt (index_and (pos 0)) (length_and off) p plans.Holds) plans.Holds)
+      (ask_cell-changes mode left (pos 0)
+      (λ x. ask_cell mode (changes_of (doc_of mode right)) (pos 0) (λ y. ask_same x y))
       ∙ ap (ask_cell mode left (pos 0)) (fun_ext (λ x. ask_cell-changes mode right (pos 0) (λ y. ask_same x y))))
 
   if_asks : (t : Bool) (g : GoalTree) (p : Plan Why) → ask_goal f g ≡ p

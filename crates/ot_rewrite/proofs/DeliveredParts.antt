@@ -1,6 +1,6 @@
 -- The goals behind a result have parts of the obligation.
-use Rattle.std.proofs.Common.{◌≡◌, ℕ, ◌+◌, ◌<◌, ◌≤◌, ℤ, pos, ◌+ℤ◌, Bool, true, false, if◌then◌else◌, IsTrue, Option, Some, None, List, [], ◌∷◌, ◌++◌, length}
-use Rattle.std.proofs.Common.{refl, sym, ◌∙◌, subst, arith}
+use Rattle.std.proofs.Common.{◌≡◌, ℕ, ◌+◌, ◌<◌, ◌≤◌, ℤ, pos, ◌+ℤ◌, Bool, true, false, if◌then◌else◌, IsTrue, Option}
+use Rattle.std.proofs.Common.{Some, None, List, [], ◌∷◌, ◌++◌, length, refl, sym, ◌∙◌, subst, arith}
 use Rattle.std.proofs.lemmas.Int.{ints}
 use Rattle.std.proofs.lemmas.List.{append-nil, append_assoc, length-set}
 use Rattle.std.specs.Ordering.{int_eq}
@@ -26,13 +26,13 @@ use Rattle.ot_terms.specs.Goals.{GoalTree, Fails, Deliver}
 use Rattle.ot_terms.specs.Changes.{changed, doc_of}
 use Rattle.ot_terms.specs.Starting.{enabled_form}
 use Rattle.ot_terms.specs.Standing.{changes_of, results_of}
-use Rattle.ot_terms.specs.Belonging.{IsPlace, IsLowerable, HasPlaces, HasNames, IsDocOf, IsIndexOf, AreOperandsOf, AreResults, IsNextResult, IsProgressOf}
-use Rattle.ot_terms.specs.Belonging.{HasParts, next_operands}
-use Rattle.goal_rules.specs.Ends.{same_documents, both_ways, one_place, end_goal}
-use Rattle.goal_rules.specs.Table.{with_result, go_on, rewrite_deliver}
+use Rattle.ot_terms.specs.Belonging.{IsPlace, IsLowerable, HasPlaces, HasNames, IsDocOf, IsIndexOf, AreOperandsOf}
+use Rattle.ot_terms.specs.Belonging.{AreResults, IsNextResult, IsProgressOf, HasParts, next_operands}
+use Rattle.ot_rewrite.specs.Ends.{same_documents, both_ways, one_place, end_goal}
+use Rattle.ot_rewrite.specs.Table.{with_result, go_on, rewrite_deliver}
 use Rattle.ot_rewrite.proofs.Rewritings.{IsRewriting}
-use Rattle.ot_rewrite.proofs.Operands.{IsOperand, AreOperands, operand_reach, IsOperand-more, pair_results, triple_results, made_pair, made_triple}
-use Rattle.ot_rewrite.proofs.Operands.{next_are_operands}
+use Rattle.ot_rewrite.proofs.Operands.{IsOperand, AreOperands, operand_reach, IsOperand-more, pair_results}
+use Rattle.ot_rewrite.proofs.Operands.{triple_results, made_pair, made_triple, next_are_operands}
 use Rattle.ot_rewrite.proofs.ChosenCases.{name_of_place, some_names, operand_reach_low}
 use Rattle.ot_rewrite.proofs.DeliveredPlans.{results_of-with_result, deliver_asks}
 use Rattle.ot_rewrite.proofs.DeliveredWeights.{awaits_next, deliver_falls}
@@ -68,7 +68,8 @@ IsIndexOf-first d h = record {
 }
 
 IsDocOf-changed :
-    (mode : Mode) (count : ℕ) (o : SymOp) (d : DocTree) → IsLowerable count (sym_at o) → HasNames count o → IsDocOf mode count d
+    (mode : Mode) (count : ℕ) (o : SymOp) (d : DocTree) → IsLowerable count (sym_at o)
+    → HasNames count o → IsDocOf mode count d
     → IsDocOf mode count (changed mode o d)
 IsDocOf-changed mode count (Ins at ch site) d low names h = (low, names.1, h)
 IsDocOf-changed Plain count (Del at site) d low names h = (low, refl, h)
@@ -80,7 +81,8 @@ module _ (f : Function) (ob : ObName) where
   name_below : (x : ℕ) → x ≤ 2 → x < name_count ob
   name_below x h = let some : 2 < name_count ob = some_names ob in omega arith
 
-  place_of_name : (x n : ℕ) (off : ℤ) → x ≤ 2 → n ≤ 200 → IsNear n off → IsPlace (name_count ob) (record { var = x; off = off })
+  place_of_name : (x n : ℕ) (off : ℤ) → x ≤ 2 → n ≤ 200 → IsNear n off
+      → IsPlace (name_count ob) (record { var = x; off = off })
   place_of_name x n off h le near =
       record { name = name_below x h; near = record { low = omega (arith, ints); high = omega (arith, ints) } }
 
@@ -106,7 +108,8 @@ module _ (f : Function) (ob : ObName) where
 
   -- the test that an operation is enabled has places below the count
   enabled_places :
-      (o : SymOp) (off : ℤ) → IsNear 1 off → IsPlace (name_count ob) (sym_at o) → HasPlaces (name_count ob) (enabled_form o off)
+      (o : SymOp) (off : ℤ) → IsNear 1 off → IsPlace (name_count ob) (sym_at o)
+      → HasPlaces (name_count ob) (enabled_form o off)
   enabled_places o off near at =
       by_kind o at (place_of_name 0 0 (pos 0) (omega arith) (omega arith) (IsNear-zero 0))
       (place_of_name 1 1 off (omega arith) (omega arith) near)
@@ -122,7 +125,8 @@ module _ (f : Function) (ob : ObName) where
       by_kind Nop h zero end last = tt
 
   twice_changed :
-      (mode : Mode) (a b : SymOp) → IsOperand f ob 99 a → IsOperand f ob 99 b → IsDocOf mode (name_count ob) (doc_of mode (b ∷ a ∷ []))
+      (mode : Mode) (a b : SymOp) → IsOperand f ob 99 a → IsOperand f ob 99 b
+      → IsDocOf mode (name_count ob) (doc_of mode (b ∷ a ∷ []))
   twice_changed mode a b ha hb =
       IsDocOf-changed mode (name_count ob) b (doc_of mode (a ∷ [])) (lowerable_operand b hb) hb.names
       (IsDocOf-changed mode (name_count ob) a documents.Base (lowerable_operand a ha) ha.names tt)
@@ -166,13 +170,16 @@ module _ (f : Function) (ob : ObName) where
     parts_of_both_ways =
         let mode = f.head.mode in
         let left = growth mode a +ℤ growth mode b_after_a in (
-          enabled_places b_after_a (growth mode a) (IsNear-growth mode a) (place_of_operand 99 b_after_a (omega arith) hx),
+          enabled_places b_after_a (growth mode a) (IsNear-growth mode a)
+              (place_of_operand 99 b_after_a (omega arith) hx),
           (
-            enabled_places a_after_b (growth mode b) (IsNear-growth mode b) (place_of_operand 99 a_after_b (omega arith) hy),
+            enabled_places a_after_b (growth mode b) (IsNear-growth mode b)
+                (place_of_operand 99 a_after_b (omega arith) hy),
             parts_of_if (int_eq left (growth mode b +ℤ growth mode a_after_b))
                 (same_documents (doc_of mode (b_after_a ∷ a ∷ [])) (doc_of mode (a_after_b ∷ b ∷ [])) left)
                 (parts_of_documents left
-                (IsNear-plus 1 1 (growth mode a) (growth mode b_after_a) (IsNear-growth mode a) (IsNear-growth mode b_after_a))),
+                (IsNear-plus 1 1 (growth mode a) (growth mode b_after_a) (IsNear-growth mode a)
+                (IsNear-growth mode b_after_a))),
             tt,
           ),
           tt,
@@ -188,7 +195,8 @@ module _ (f : Function) (ob : ObName) where
 
 module _ (f : Function) where
   end_of_two :
-      (k l : Kind) (a b : SymOp) (os got : List SymOp) → AreOperands f (Pair k l) 0 (a, b) → AreResults (Pair k l) (a ∷ b ∷ os) [] got
+      (k l : Kind) (a b : SymOp) (os got : List SymOp) → AreOperands f (Pair k l) 0 (a, b)
+      → AreResults (Pair k l) (a ∷ b ∷ os) [] got
       → HasParts f (Pair k l) (end_goal f.head.mode (Pair k l) (a ∷ b ∷ os) got)
   end_of_two k l a b os [] both h = tt
   end_of_two k l a b os (x ∷ []) both h = tt
@@ -217,19 +225,22 @@ module _ (f : Function) where
       (place_of_operand f ob 198 left (omega arith) forms.0) (place_of_operand f ob 198 right (omega arith) forms.1)
 
   end_has_parts :
-      (ob : ObName) (os got : List SymOp) → IsTrue (is_obligation f.head ob) → AreOperandsOf ob os → AreResults ob os [] got
+      (ob : ObName) (os got : List SymOp) → IsTrue (is_obligation f.head ob) → AreOperandsOf ob os
+      → AreResults ob os [] got
       → HasParts f ob (end_goal f.head.mode ob os got)
   end_has_parts (Pair k l) os got d made h =
-      subst (λ t. AreResults (Pair k l) t [] got → HasParts f (Pair k l) (end_goal f.head.mode (Pair k l) t got)) (sym made.2)
-      (end_of_two k l made.0 made.1 (Nop ∷ []) got (made_pair f k l made.0 made.1 d made.3 made.4)) h
+      subst (λ t. AreResults (Pair k l) t [] got → HasParts f (Pair k l) (end_goal f.head.mode (Pair k l) t got))
+      (sym made.2) (end_of_two k l made.0 made.1 (Nop ∷ []) got (made_pair f k l made.0 made.1 d made.3 made.4)) h
   end_has_parts (Triple k l m) os got d made h =
-      subst (λ t. AreResults (Triple k l m) t [] got → HasParts f (Triple k l m) (end_goal f.head.mode (Triple k l m) t got))
-      (sym made.3)
-      (end_of_three k l m made.0 made.1 made.2 [] got (made_triple f k l m made.0 made.1 made.2 d made.4 made.5 made.6)) h
+      subst (λ t. AreResults (Triple k l m) t [] got
+      → HasParts f (Triple k l m) (end_goal f.head.mode (Triple k l m) t got)) (sym made.3)
+      (end_of_three k l m made.0 made.1 made.2 [] got (made_triple f k l m made.0 made.1 made.2 d made.4 made.5 made.6))
+      h
 
 -- one more result behind those that are there
 AreResults-more :
-    (ob : ObName) (os before got : List SymOp) (r : SymOp) → AreResults ob os before got → IsNextResult ob os (before ++ got) r
+    (ob : ObName) (os before got : List SymOp) (r : SymOp) → AreResults ob os before got
+    → IsNextResult ob os (before ++ got) r
     → AreResults ob os before (got ++ r ∷ [])
 AreResults-more ob os before [] r h next = (subst (λ t. IsNextResult ob os t r) (append-nil before) next, tt)
 AreResults-more ob os before (x ∷ got) r h next = (
@@ -239,8 +250,10 @@ AreResults-more ob os before (x ∷ got) r h next = (
 )
 
 within_room : (ob : ObName) (progress : GoalProgress) → IsProgressOf ob progress → progress.count < length progress.got
-within_room (Pair k l) progress h = let room : length progress.got ≡ 6 = h.room in let awaited : progress.count < 2 = h.awaited in omega arith
-within_room (Triple k l m) progress h = let room : length progress.got ≡ 6 = h.room in let awaited : progress.count < 6 = h.awaited in omega arith
+within_room (Pair k l) progress h = let room : length progress.got ≡ 6 = h.room in
+    let awaited : progress.count < 2 = h.awaited in omega arith
+within_room (Triple k l m) progress h = let room : length progress.got ≡ 6 = h.room in
+    let awaited : progress.count < 6 = h.awaited in omega arith
 
 -- a result of the obligation that the progress is of
 module _ (f : Function) (r : SymOp) (progress : GoalProgress) (d : IsTrue (is_obligation f.head progress.ob)) where
@@ -254,7 +267,8 @@ module _ (f : Function) (r : SymOp) (progress : GoalProgress) (d : IsTrue (is_ob
 
   -- what comes after a result, the next transformation or the end, has parts of the obligation
   go_on_has_parts :
-      (next : Option (SymOp × SymOp)) → next_operands progress.ob progress.ops (results_of (with_result progress r)) ≡ next
+      (next : Option (SymOp × SymOp))
+      → next_operands progress.ob progress.ops (results_of (with_result progress r)) ≡ next
       → HasParts f progress.ob (Deliver r progress) → HasParts f progress.ob (go_on f (with_result progress r) next)
   go_on_has_parts None e h =
       end_has_parts f progress.ob progress.ops (results_of (with_result progress r)) d h.0.made (results_more h.0 h.1)
@@ -280,7 +294,8 @@ module _ (f : Function) (r : SymOp) (progress : GoalProgress) (d : IsTrue (is_ob
         cases = omega arith;
       }
 
-  own_rule : HasParts f progress.ob (Deliver r progress) → IsRewriting f progress.ob (Deliver r progress) (rewrite_deliver f r progress)
+  own_rule : HasParts f progress.ob (Deliver r progress)
+      → IsRewriting f progress.ob (Deliver r progress) (rewrite_deliver f r progress)
   own_rule h = record {
     asked = deliver_asks f r progress h.0.made (within_room progress.ob progress h.0);
     parts = go_on_has_parts (next_operands progress.ob progress.ops (results_of (with_result progress r))) refl;
@@ -288,9 +303,10 @@ module _ (f : Function) (r : SymOp) (progress : GoalProgress) (d : IsTrue (is_ob
   }
 
 pub deliver_rule :
-    (f : Function) (ob : ObName) (r : SymOp) (progress : GoalProgress) → IsTrue (is_obligation f.head ob) → HasParts f ob (Deliver r progress)
+    (f : Function) (ob : ObName) (r : SymOp) (progress : GoalProgress) → IsTrue (is_obligation f.head ob)
+    → HasParts f ob (Deliver r progress)
     → IsRewriting f ob (Deliver r progress) (rewrite_deliver f r progress)
 deliver_rule f ob r progress d h =
     subst
-    (λ o. IsTrue (is_obligation f.head o) → HasParts f o (Deliver r progress) → IsRewriting f o (Deliver r progress) (rewrite_deliver f r progress))
-    h.0.same (own_rule f r progress) d h
+    (λ o. IsTrue (is_obligation f.head o) → HasParts f o (Deliver r progress)
+    → IsRewriting f o (Deliver r progress) (rewrite_deliver f r progress)) h.0.same (own_rule f r progress) d h

@@ -1,6 +1,6 @@
 -- Delivering a result makes a goal lighter.
-use Rattle.std.proofs.Common.{◌≡◌, ℕ, suc, ◌+◌, ◌-◌, ◌*◌, ◌<◌, ◌≤◌, ℤ, ◌+ℤ◌, Bool, true, false, if◌then◌else◌, Option, Some, None, List, [], ◌∷◌, ◌++◌, length}
-use Rattle.std.proofs.Common.{map, refl, ap, arith}
+use Rattle.std.proofs.Common.{◌≡◌, ℕ, suc, ◌+◌, ◌-◌, ◌*◌, ◌<◌, ◌≤◌, ℤ, ◌+ℤ◌, Bool, true, false, if◌then◌else◌, Option}
+use Rattle.std.proofs.Common.{Some, None, List, [], ◌∷◌, ◌++◌, length, map, refl, ap, arith}
 use Rattle.std.specs.List.{sum}
 use Rattle.std.proofs.lemmas.List.{length-append, length-take-le}
 use Rattle.std.specs.Ordering.{int_eq}
@@ -23,10 +23,11 @@ use Rattle.ot_terms.specs.Goals.{GoalTree, Fails, Deliver}
 use Rattle.ot_terms.specs.Changes.{changed, doc_of}
 use Rattle.ot_terms.specs.Starting.{enabled_form}
 use Rattle.ot_terms.specs.Standing.{results_of}
-use Rattle.ot_terms.specs.Weights.{form_weight, cases_weight, doc_weight, transforms_of, function_weight, cases_of_kinds, goal_weight}
+use Rattle.ot_terms.specs.Weights.{form_weight, cases_weight, doc_weight, transforms_of, function_weight}
+use Rattle.ot_terms.specs.Weights.{cases_of_kinds, goal_weight}
 use Rattle.ot_terms.specs.Belonging.{next_operands}
-use Rattle.goal_rules.specs.Ends.{same_documents, same_lengths, both_ways, one_place, end_goal}
-use Rattle.goal_rules.specs.Table.{with_result, go_on, rewrite_deliver}
+use Rattle.ot_rewrite.specs.Ends.{same_documents, same_lengths, both_ways, one_place, end_goal}
+use Rattle.ot_rewrite.specs.Table.{with_result, go_on, rewrite_deliver}
 use Rattle.ot_rewrite.proofs.DeliveredPlans.{results_of-with_result}
 
 -- the block of two kinds is no heavier than all blocks together
@@ -48,7 +49,8 @@ block_weight f (Some k) (Some l) = one_of_all (λ x y. cases_weight (f.cases x y
 
 -- an obligation is behind its last result once there are as many as it has transformations
 next_within :
-    (ob : ObName) (os got : List SymOp) (pair : SymOp × SymOp) → next_operands ob os got ≡ Some pair → length got < transforms_of ob
+    (ob : ObName) (os got : List SymOp) (pair : SymOp × SymOp) → next_operands ob os got ≡ Some pair
+    → length got < transforms_of ob
 next_within (Pair k l) [] got pair e = absurd (cc)
 next_within (Pair k l) (a ∷ []) got pair e = absurd (cc)
 next_within (Pair k l) (a ∷ b ∷ os) [] pair e = omega arith
@@ -66,17 +68,21 @@ next_within (Triple k l m) (a ∷ b ∷ c ∷ os) (x ∷ y ∷ z ∷ u ∷ v ∷
 next_within (Triple k l m) (a ∷ b ∷ c ∷ os) (x ∷ y ∷ z ∷ u ∷ v ∷ w ∷ got) pair e = absurd (cc)
 
 pub count_with_result :
-    (progress : GoalProgress) (r : SymOp) → progress.count < length progress.got → length (results_of (with_result progress r)) ≡ suc progress.count
+    (progress : GoalProgress) (r : SymOp) → progress.count < length progress.got
+    → length (results_of (with_result progress r)) ≡ suc progress.count
 count_with_result progress r h =
-    let there : length (results_of progress) ≡ progress.count = length-take-le progress.count progress.got (omega arith) in
-    let more : length (results_of progress ++ r ∷ []) ≡ length (results_of progress) + 1 = length-append (results_of progress) (r ∷ []) in
+    let there : length (results_of progress) ≡ progress.count =
+    length-take-le progress.count progress.got (omega arith) in
+    let more : length (results_of progress ++ r ∷ []) ≡ length (results_of progress) + 1 =
+    length-append (results_of progress) (r ∷ []) in
     let all : length (results_of (with_result progress r)) ≡ length (results_of progress ++ r ∷ []) =
     ap length (results_of-with_result progress r h) in
     omega arith
 
 pub awaits_next :
     (progress : GoalProgress) (r : SymOp) (pair : SymOp × SymOp) → progress.count < length progress.got
-    → next_operands progress.ob progress.ops (results_of (with_result progress r)) ≡ Some pair → suc progress.count < transforms_of progress.ob
+    → next_operands progress.ob progress.ops (results_of (with_result progress r)) ≡ Some pair
+    → suc progress.count < transforms_of progress.ob
 awaits_next progress r pair h e =
     let within = next_within progress.ob progress.ops (results_of (with_result progress r)) pair e in
     let count : length (results_of (with_result progress r)) ≡ suc progress.count = count_with_result progress r h in
@@ -128,8 +134,10 @@ module _ (f : Function) where
       (mode : Mode) (a b_after_a b a_after_b : SymOp) → goal_weight f (both_ways mode a b_after_a b a_after_b) ≤ 200
   both_ways_weight mode a b_after_a b a_after_b =
       let first : form_weight (enabled_form b_after_a (growth mode a)) ≤ 4 = enabled_weight b_after_a (growth mode a) in
-      let second : form_weight (enabled_form a_after_b (growth mode b)) ≤ 4 = enabled_weight a_after_b (growth mode b) in
-      let last : goal_weight f (same_lengths mode a b_after_a b a_after_b) ≤ 128 = lengths_weight mode a b_after_a b a_after_b in
+      let second : form_weight (enabled_form a_after_b (growth mode b)) ≤ 4 =
+      enabled_weight a_after_b (growth mode b) in
+      let last : goal_weight f (same_lengths mode a b_after_a b a_after_b) ≤ 128 =
+      lengths_weight mode a b_after_a b a_after_b in
       omega arith
 
   one_place_weight : (k l : Option Kind) (at there : Place) → goal_weight f (one_place k l at there) ≤ 200
@@ -173,7 +181,8 @@ module _ (f : Function) where
       → next_operands progress.ob progress.ops (results_of (with_result progress r)) ≡ next
       → goal_weight f (go_on f (with_result progress r) next) < goal_weight f (Deliver r progress)
   go_on_falls r progress (Some pair) h e =
-      rest_falls (transforms_of progress.ob) progress.count (cases_weight (cases_of_kinds f (sym_kind pair.0) (sym_kind pair.1)))
+      rest_falls (transforms_of progress.ob) progress.count
+      (cases_weight (cases_of_kinds f (sym_kind pair.0) (sym_kind pair.1)))
       (function_weight f) (awaits_next progress r pair h e) (block_weight f (sym_kind pair.0) (sym_kind pair.1))
   go_on_falls r progress None h e =
       end_falls (goal_weight f (end_goal f.head.mode progress.ob progress.ops (results_of (with_result progress r))))

@@ -1,5 +1,6 @@
 -- What the rules of a goal that begins with a form keep.
-use Rattle.std.proofs.Common.{◌≡◌, ℕ, negsuc, Bool, true, false, if◌then◌else◌, nat_eq, int_le, Some, None, refl, subst, arith}
+use Rattle.std.proofs.Common.{◌≡◌, ℕ, negsuc, Bool, true, false, if◌then◌else◌, nat_eq, int_le, Some, None, refl, subst}
+use Rattle.std.proofs.Common.{arith}
 use Rattle.std.proofs.lemmas.Int.{ints}
 use Rattle.fn_rules.specs.declared.function.ObName.{ObName}
 use Rattle.fn_rules.specs.Functions.{Function}
@@ -11,7 +12,7 @@ use Rattle.ot_terms.specs.Forms.{FormTree, True, Le, Lt, Eq, And, Or, Not}
 use Rattle.ot_terms.specs.Goals.{GoalTree, If}
 use Rattle.ot_terms.specs.Standing.{ask_form, ask_goal}
 use Rattle.ot_terms.specs.Belonging.{IsPlace, IsLowerable}
-use Rattle.goal_rules.specs.Table.{rewrite_if}
+use Rattle.ot_rewrite.specs.Table.{rewrite_if}
 use Rattle.ot_rewrite.proofs.Rewritings.{IsRewriting}
 
 -- a place that may be lowered is one, and so is the place before it
@@ -23,7 +24,8 @@ IsPlace-before count y h =
     record { name = h.name; near = record { low = omega (arith, ints); high = omega (arith, ints) } }
 
 -- the goal that a rule names is the one that it gives
-pub given : (f : Function) (ob : ObName) (old named got : GoalTree) → Some named ≡ Some got → IsRewriting f ob old named → IsRewriting f ob old got
+pub given : (f : Function) (ob : ObName) (old named got : GoalTree) → Some named ≡ Some got → IsRewriting f ob old named
+    → IsRewriting f ob old got
 given f ob old named got e h = let same : named ≡ got = cc in subst (IsRewriting f ob old) same h
 
 module _ (f : Function) (ob : ObName) (y n : GoalTree) where

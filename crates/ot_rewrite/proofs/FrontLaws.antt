@@ -3,7 +3,7 @@ use Rattle.std.proofs.Common.{◌≡◌, ◌↔◌, Bool, true, false, not, if�
 use Rattle.fn_rules.specs.Functions.{Function}
 use Rattle.ot_terms.specs.Forms.{FormTree, True, Le, Lt, Eq, And, Or, Not}
 use Rattle.ot_terms.specs.Goals.{GoalTree, Holds, Fails, If, Choose, Deliver, Same}
-use Rattle.goal_rules.specs.Table.{rewrite_if, rewritten}
+use Rattle.ot_rewrite.specs.Table.{rewrite_if, rewritten}
 use Rattle.ot_rewrite.specs.Fronts.{is_question, is_at_front}
 use Rattle.ot_rewrite.proofs.SameRules.{same_goes_on}
 

@@ -4,9 +4,9 @@ use Rattle.std.proofs.lemmas.Result.{IfOk-weaker}
 use Rattle.fn_rules.specs.Functions.{Function}
 use Rattle.ot_terms.specs.declared.goal.Goal.{Goal}
 use Rattle.ot_terms.specs.Goals.{GoalTree, goal_tree}
-use Rattle.goal_rules.specs.declared.front.Front.{Front}
-use Rattle.goal_rules.specs.Steps.{front_tree}
-use Rattle.goal_rules.specs.Table.{rewritten}
+use Rattle.ot_rewrite.specs.declared.front.Front.{Front}
+use Rattle.ot_rewrite.specs.Steps.{front_tree}
+use Rattle.ot_rewrite.specs.Table.{rewritten}
 
 abbrev pub Given : Function → GoalTree → Option Front → Type 0
 Given f old o = option_map front_tree o ≡ rewritten f old

@@ -18,3 +18,7 @@ mod SplitForms
 mod SplitEnds
 pub mod SplitExamples
 pub mod Stepped
+pub mod CasesLeft
+mod CellExamples
+mod MoveExamples
+pub mod FormsThrough

@@ -1,5 +1,6 @@
 -- The operations that an obligation transforms: as they were made, or results that are not far.
-use Rattle.std.proofs.Common.{◌≡◌, ◌⊎◌, ℕ, ◌-◌, ◌≤◌, ◌&&◌, IsTrue, Some, List, [], ◌∷◌, length, MatchOption, refl, sym, subst, inl, inr}
+use Rattle.std.proofs.Common.{◌≡◌, ◌⊎◌, ℕ, ◌-◌, ◌≤◌, ◌&&◌, IsTrue, Some, List, [], ◌∷◌, length, MatchOption, refl, sym}
+use Rattle.std.proofs.Common.{subst, inl, inr}
 use Rattle.ot_model.specs.declared.op.Kind.{Kind}
 use Rattle.fn_rules.specs.declared.function.ObName.{ObName}
 use Rattle.fn_rules.specs.declared.function.ObName.TheVariants.{Pair, Triple}
@@ -32,7 +33,8 @@ module _ (f : Function) (ob : ObName) where
   IsOperand-nop : (n : ℕ) → IsOperand f ob n Nop
   IsOperand-nop n = record { names = tt; near = IsNear-zero n; declared = refl }
 
-  IsOperand-made : (k : Kind) (a : SymOp) → IsTrue (is_declared f.head k) → IsMade (name_count ob) k a → IsOperand f ob 0 a
+  IsOperand-made : (k : Kind) (a : SymOp) → IsTrue (is_declared f.head k)
+      → IsMade (name_count ob) k a → IsOperand f ob 0 a
   IsOperand-made k a d h = record {
     names = h.names;
     near = subst (λ x. IsNear 0 x) (sym h.at) (IsNear-zero 0);
@@ -40,7 +42,8 @@ module _ (f : Function) (ob : ObName) where
   }
 
   pub IsOperand-result :
-      (n : ℕ) (first r : SymOp) → IsDeclaredOp f.head first → (r ≡ Nop) ⊎ IsMoved (name_count ob) n first r → IsOperand f ob n r
+      (n : ℕ) (first r : SymOp) → IsDeclaredOp f.head first
+      → (r ≡ Nop) ⊎ IsMoved (name_count ob) n first r → IsOperand f ob n r
   IsOperand-result n first r d (inl e) = subst (λ o. IsOperand f ob n o) (sym e) (IsOperand-nop n)
   IsOperand-result n first r d (inr h) =
       record { names = h.names; near = h.near; declared = subst (λ t. IsForKind f.head t) (sym h.kind) d }
@@ -50,7 +53,8 @@ module _ (f : Function) (k l : Kind) (a b : SymOp) (os : List SymOp)
     (ha : IsOperand f (Pair k l) 0 a) (hb : IsOperand f (Pair k l) 0 b) where
   pair_operands :
       (got : List SymOp)
-      → MatchOption (next_operands (Pair k l) (a ∷ b ∷ os) got) (Unit {0}) (AreOperands f (Pair k l) (operand_reach (Pair k l) (length got)))
+      → MatchOption (next_operands (Pair k l) (a ∷ b ∷ os) got) (Unit {0})
+      (AreOperands f (Pair k l) (operand_reach (Pair k l) (length got)))
   pair_operands [] = (hb, ha)
   pair_operands (x ∷ []) = (ha, hb)
   pair_operands (x ∷ y ∷ got) = tt
@@ -63,7 +67,8 @@ module _ (f : Function) (k l : Kind) (a b : SymOp) (os : List SymOp)
 
 -- the operations of a triple, and their results
 module _ (f : Function) (k l m : Kind) (a b c : SymOp) (os : List SymOp)
-    (ha : IsOperand f (Triple k l m) 0 a) (hb : IsOperand f (Triple k l m) 0 b) (hc : IsOperand f (Triple k l m) 0 c) where
+    (ha : IsOperand f (Triple k l m) 0 a) (hb : IsOperand f (Triple k l m) 0 b)
+    (hc : IsOperand f (Triple k l m) 0 c) where
   result :
       (n : ℕ) (first r : SymOp) → IsOperand f (Triple k l m) 0 first → (r ≡ Nop) ⊎ IsMoved 12 n first r
       → IsOperand f (Triple k l m) n r
@@ -104,7 +109,8 @@ module _ (f : Function) where
       (IsOperand-made f (Pair k l) k a declared.0 ha, IsOperand-made f (Pair k l) l b declared.1 hb)
 
   pub made_triple :
-      (k l m : Kind) (a b c : SymOp) → IsTrue (is_obligation f.head (Triple k l m)) → IsMade 12 k a → IsMade 12 l b → IsMade 12 m c
+      (k l m : Kind) (a b c : SymOp) → IsTrue (is_obligation f.head (Triple k l m)) → IsMade 12 k a
+      → IsMade 12 l b → IsMade 12 m c
       → IsOperand f (Triple k l m) 0 a × IsOperand f (Triple k l m) 0 b × IsOperand f (Triple k l m) 0 c
   made_triple k l m a b c d ha hb hc =
       let first_two = both_true (is_declared f.head k && is_declared f.head l) (is_declared f.head m) d in
@@ -116,22 +122,27 @@ module _ (f : Function) where
 
   -- the next two operations of an obligation are operands
   operands :
-      (ob : ObName) (os got : List SymOp) → IsTrue (is_obligation f.head ob) → AreOperandsOf ob os → AreResults ob os [] got
+      (ob : ObName) (os got : List SymOp) → IsTrue (is_obligation f.head ob) → AreOperandsOf ob os
+      → AreResults ob os [] got
       → MatchOption (next_operands ob os got) (Unit {0}) (AreOperands f ob (operand_reach ob (length got)))
   operands (Pair k l) os got d made results =
       let both = made_pair k l made.0 made.1 d made.3 made.4 in
-      subst (λ t. MatchOption (next_operands (Pair k l) t got) (Unit {0}) (AreOperands f (Pair k l) (operand_reach (Pair k l) (length got))))
+      subst (λ t. MatchOption (next_operands (Pair k l) t got) (Unit {0})
+      (AreOperands f (Pair k l) (operand_reach (Pair k l) (length got))))
       (sym made.2) (pair_operands f k l made.0 made.1 (Nop ∷ []) both.0 both.1 got)
   operands (Triple k l m) os got d made results =
       let three = made_triple k l m made.0 made.1 made.2 d made.4 made.5 made.6 in
       subst
       (λ t. AreResults (Triple k l m) t [] got
-      → MatchOption (next_operands (Triple k l m) t got) (Unit {0}) (AreOperands f (Triple k l m) (operand_reach (Triple k l m) (length got))))
+      → MatchOption (next_operands (Triple k l m) t got) (Unit {0})
+      (AreOperands f (Triple k l m) (operand_reach (Triple k l m) (length got))))
       (sym made.3) (triple_operands f k l m made.0 made.1 made.2 [] three.0 three.1 three.2 got) results
 
   -- those of the next transformation
   pub next_are_operands :
-      (ob : ObName) (os got : List SymOp) (a b : SymOp) → IsTrue (is_obligation f.head ob) → AreOperandsOf ob os → AreResults ob os [] got
+      (ob : ObName) (os got : List SymOp) (a b : SymOp) → IsTrue (is_obligation f.head ob) → AreOperandsOf ob os
+      → AreResults ob os [] got
       → next_operands ob os got ≡ Some (a, b) → AreOperands f ob (operand_reach ob (length got)) (a, b)
   next_are_operands ob os got a b d made results e =
-      subst (λ t. MatchOption t (Unit {0}) (AreOperands f ob (operand_reach ob (length got)))) e (operands ob os got d made results)
+      subst (λ t. MatchOption t (Unit {0}) (AreOperands f ob (operand_reach ob (length got)))) e
+      (operands ob os got d made results)

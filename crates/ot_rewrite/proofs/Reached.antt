@@ -8,7 +8,7 @@ use Rattle.ot_terms.specs.Goals.{GoalTree}
 use Rattle.ot_terms.specs.Standing.{ask_goal}
 use Rattle.ot_terms.specs.Weights.{goal_weight}
 use Rattle.ot_terms.specs.Belonging.{IsGoalOf}
-use Rattle.goal_rules.specs.Table.{rewritten}
+use Rattle.ot_rewrite.specs.Table.{rewritten}
 use Rattle.ot_rewrite.specs.Reaching.{after_rules, Reaches}
 use Rattle.ot_rewrite.proofs.RulesKept.{rule_kept, rule_belongs}
 
@@ -46,7 +46,8 @@ pub record IsKept (f : Function) (ob : ObName) (old new : GoalTree) : Type 0 whe
 module _ (f : Function) (ob : ObName) (valid : IsTrue (is_valid f)) where
   -- what a first rule and the others keep, both keep one after the other
   kept_by_first :
-      (g h : GoalTree) (o : Option GoalTree) → IsGoalOf f ob g → rewritten f g ≡ o → (others : GoalTree → Option GoalTree)
+      (g h : GoalTree) (o : Option GoalTree) → IsGoalOf f ob g → rewritten f g ≡ o
+      → (others : GoalTree → Option GoalTree)
       → ((k : GoalTree) → IsGoalOf f ob k → others k ≡ Some h → IsKept f ob k h) → option_and_then others o ≡ Some h
       → IsKept f ob g h
   kept_by_first g h None is_goal e others go given = absurd (cc)

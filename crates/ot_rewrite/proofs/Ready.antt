@@ -17,7 +17,7 @@ use Rattle.ot_terms.specs.Standing.{changes_of}
 use Rattle.ot_terms.specs.Weights.{transforms_of}
 use Rattle.ot_terms.specs.Belonging.{HasPlaces, IsCellOf, HasParts, IsGoalOf}
 use Rattle.cell_rules.specs.Cells.{IsReadable}
-use Rattle.goal_rules.specs.Steps.{IsLoweredForm, IsReadyGoal}
+use Rattle.ot_rewrite.specs.Steps.{IsLoweredForm, IsReadyGoal}
 
 -- offsets of places are small enough for a literal
 lowered : (count : ℕ) (g : FormTree) → HasPlaces count g → IsLoweredForm g
@@ -54,7 +54,13 @@ ready_parts f ob goals.Holds h = tt
 ready_parts f ob (goals.Fails why) h = tt
 ready_parts f ob (goals.If g on_yes on_no) h = lowered (name_count ob) g h.0
 ready_parts f ob (goals.Choose case a b plan) h =
-    record { a_declared = h.a_declared; b_declared = h.b_declared; a_near = h.a_near; b_near = h.b_near; cases = h.cases }
+    record {
+      a_declared = h.a_declared;
+      b_declared = h.b_declared;
+      a_near = h.a_near;
+      b_near = h.b_near;
+      cases = h.cases;
+    }
 ready_parts f ob (goals.Deliver o plan) h = few ob plan.count h.0.awaited
 ready_parts f ob (goals.Same left right) h =
     (readable f.head.mode (name_count ob) left h.0, readable f.head.mode (name_count ob) right h.1)

@@ -5,7 +5,7 @@ use Rattle.fn_rules.specs.Functions.{Function}
 use Rattle.fn_rules.specs.Validity.{is_valid}
 use Rattle.ot_terms.specs.Goals.{GoalTree, Holds, Fails, If, Choose, Deliver, Same}
 use Rattle.ot_terms.specs.Belonging.{IsGoalOf}
-use Rattle.goal_rules.specs.Table.{rewrite_choose, rewrite_deliver, rewritten}
+use Rattle.ot_rewrite.specs.Table.{rewrite_choose, rewrite_deliver, rewritten}
 use Rattle.ot_rewrite.proofs.Rewritings.{IsRewriting}
 use Rattle.ot_rewrite.proofs.ChosenRules.{choose_rule}
 use Rattle.ot_rewrite.proofs.DeliveredParts.{deliver_rule}
@@ -21,9 +21,11 @@ module _ (f : Function) (ob : ObName) where
   rule_kept (Fails why) h valid is_goal e = absurd (cc)
   rule_kept (If g on_yes on_no) h valid is_goal e = form_rule f ob on_yes on_no g h e
   rule_kept (Choose case a b plan) h valid is_goal e =
-      given f ob (Choose case a b plan) (rewrite_choose f case a b plan) h e (choose_rule f ob case a b plan valid is_goal.declared)
+      given f ob (Choose case a b plan) (rewrite_choose f case a b plan) h e
+      (choose_rule f ob case a b plan valid is_goal.declared)
   rule_kept (Deliver r plan) h valid is_goal e =
-      given f ob (Deliver r plan) (rewrite_deliver f r plan) h e (deliver_rule f ob r plan is_goal.declared is_goal.parts)
+      given f ob (Deliver r plan) (rewrite_deliver f r plan) h e
+      (deliver_rule f ob r plan is_goal.declared is_goal.parts)
   rule_kept (Same left right) h valid is_goal e = same_rule f ob left right h e is_goal.parts
 
   -- the new goal is of the function and the obligation as the old one is

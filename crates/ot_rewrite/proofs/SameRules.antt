@@ -1,5 +1,6 @@
 -- What the rules of a comparison of two cells keep.
-use Rattle.std.proofs.Common.{◌≡◌, ◌≢◌, ℕ, ◌<◌, ◌≤◌, pos, Bool, true, false, if◌then◌else◌, Option, Some, None, option_map, refl, ap, sym, ◌∙◌, subst, arith}
+use Rattle.std.proofs.Common.{◌≡◌, ◌≢◌, ℕ, ◌<◌, ◌≤◌, pos, Bool, true, false, if◌then◌else◌, Option, Some, None}
+use Rattle.std.proofs.Common.{option_map, refl, ap, sym, ◌∙◌, subst, arith}
 use Rattle.std.proofs.lemmas.Int.{ints}
 use Rattle.std.specs.Ordering.{int_eq}
 use Rattle.ot_model.specs.declared.op.Mode.{Mode}
@@ -15,7 +16,8 @@ use Rattle.ot_questions.specs.declared.cell.Source.TheVariants as sources
 use Rattle.ot_questions.specs.declared.why.Why.{Why}
 use Rattle.ot_questions.specs.Names.{name_count}
 use Rattle.ot_questions.specs.Places.{place}
-use Rattle.ot_questions.specs.Reading.{base_cell, put_cell, buried_cell, replaced_cell, is_same_flag, cells_cause, ask_cell, ask_same_source, ask_same}
+use Rattle.ot_questions.specs.Reading.{base_cell, put_cell, buried_cell, replaced_cell, is_same_flag, cells_cause}
+use Rattle.ot_questions.specs.Reading.{ask_cell, ask_same_source, ask_same}
 use Rattle.ot_terms.specs.Documents as documents
 use Rattle.ot_terms.specs.Cells.{CellTree, At, Char, Dead, Over, If}
 use Rattle.ot_terms.specs.Goals as goals
@@ -24,7 +26,8 @@ use Rattle.ot_terms.specs.Standing.{ask_form, ask_read, ask_goal}
 use Rattle.ot_terms.specs.Weights.{goal_weight}
 use Rattle.ot_terms.specs.Belonging.{IsPlace, IsCellOf, HasParts}
 use Rattle.cell_rules.specs.Cells.{bury, replace, read_step, finished_cell}
-use Rattle.goal_rules.specs.Table.{same_source, same_finished, both_finished, parted, rewrite_right, rewrite_left, rewrite_same}
+use Rattle.ot_rewrite.specs.Table.{same_source, same_finished, both_finished, parted, rewrite_right, rewrite_left}
+use Rattle.ot_rewrite.specs.Table.{rewrite_same}
 use Rattle.ot_rewrite.proofs.Rewritings.{IsRewriting}
 use Rattle.ot_rewrite.proofs.FormRules.{given}
 use Rattle.ot_rewrite.proofs.CellSteps.{cell_weighs, none_left, cell_step}
@@ -53,7 +56,8 @@ dead_finished (If g on_yes on_no) s e = absurd (cc)
 
 -- a cell that is read as far as it goes, and into which no character can be pulled, is finished
 over_finished :
-    (ch : ℕ) (cell : CellTree) → read_step cell ≡ None → replace ch cell ≡ None → (x : Finished) × (finished_cell cell ≡ Some x)
+    (ch : ℕ) (cell : CellTree) → read_step cell ≡ None → replace ch cell ≡ None
+    → (x : Finished) × (finished_cell cell ≡ Some x)
 unfolding read_step
 over_finished ch (At documents.Base at) s e = (base_cell at.off, refl)
 over_finished ch (At (documents.Put d at c) j) s e = absurd (cc)
@@ -180,9 +184,9 @@ module _ (f : Function) (ob : ObName) where
       → IsComparison f ob (ask_same x y) (same_finished x y)
   unfolding ask_same
   finished_compared x y hx hy =
-      tested f ob (cells_cause x y) (is_same_flag x.flag y.flag) (ask_same_source x.source y.source (plans.Fails (cells_cause x y)))
-      (plans.Fails (cells_cause x y)) (same_source x.source y.source (cells_cause x y)) (goals.Fails (cells_cause x y))
-      (sources_compared f ob (cells_cause x y) x.source y.source hx hy)
+      tested f ob (cells_cause x y) (is_same_flag x.flag y.flag) (ask_same_source x.source y.source
+      (plans.Fails (cells_cause x y))) (plans.Fails (cells_cause x y)) (same_source x.source y.source (cells_cause x y))
+      (goals.Fails (cells_cause x y)) (sources_compared f ob (cells_cause x y) x.source y.source hx hy)
       (fails f ob (cells_cause x y))
 
   -- both are finished
@@ -212,9 +216,12 @@ module _ (f : Function) (ob : ObName) where
       → parted r (λ cell. Same l cell) (both_finished (finished_cell l) (finished_cell r)) ≡ Some got
       → IsRewriting f ob (Same l r) got
   unfolding ask_goal ask_read
-  right_end l (At d at) h x el got e = ends_rule l (At d at) h (finished_cell l) (finished_cell (At d at)) refl refl got e
-  right_end l (Char ch) h x el got e = ends_rule l (Char ch) h (finished_cell l) (finished_cell (Char ch)) refl refl got e
-  right_end l (Dead cell) h x el got e = ends_rule l (Dead cell) h (finished_cell l) (finished_cell (Dead cell)) refl refl got e
+  right_end l (At d at) h x el got e =
+      ends_rule l (At d at) h (finished_cell l) (finished_cell (At d at)) refl refl got e
+  right_end l (Char ch) h x el got e =
+      ends_rule l (Char ch) h (finished_cell l) (finished_cell (Char ch)) refl refl got e
+  right_end l (Dead cell) h x el got e =
+      ends_rule l (Dead cell) h (finished_cell l) (finished_cell (Dead cell)) refl refl got e
   right_end l (Over ch cell) h x el got e =
       ends_rule l (Over ch cell) h (finished_cell l) (finished_cell (Over ch cell)) refl refl got e
   right_end l (If g on_yes on_no) h x el got e =
@@ -245,7 +252,8 @@ module _ (f : Function) (ob : ObName) where
       (record {
         asked =
             finished_asks mode l x el (λ z. ask_read mode read (λ w. ask_same z w))
-            ∙ (step.asked (λ w. ask_same x w) ∙ sym (finished_asks mode l x el (λ z. ask_read mode r (λ w. ask_same z w))));
+            ∙ (step.asked (λ w. ask_same x w)
+            ∙ sym (finished_asks mode l x el (λ z. ask_read mode r (λ w. ask_same z w))));
         parts = λ p. (h.0, step.kept);
         lighter = omega (arith, step.lighter);
       })
@@ -260,9 +268,11 @@ module _ (f : Function) (ob : ObName) where
   left_end (Char ch) r h s got e =
       let found = finished_where (Char ch) s refl in right_rule (Char ch) r h found.0 found.1 (read_step r) refl got e
   left_end (Dead cell) r h s got e =
-      let found = finished_where (Dead cell) s refl in right_rule (Dead cell) r h found.0 found.1 (read_step r) refl got e
+      let found = finished_where (Dead cell) s refl in
+      right_rule (Dead cell) r h found.0 found.1 (read_step r) refl got e
   left_end (Over ch cell) r h s got e =
-      let found = finished_where (Over ch cell) s refl in right_rule (Over ch cell) r h found.0 found.1 (read_step r) refl got e
+      let found = finished_where (Over ch cell) s refl in
+      right_rule (Over ch cell) r h found.0 found.1 (read_step r) refl got e
   left_end (If g on_yes on_no) r h s got e =
       given f ob (Same (If g on_yes on_no) r) (goals.If g (Same on_yes r) (Same on_no r)) got e
       (record { asked = refl; parts = λ p. (h.0.0, (h.0.1, h.1), (h.0.2, h.1)); lighter = omega arith })
@@ -284,7 +294,8 @@ module _ (f : Function) (ob : ObName) where
       })
 
   pub same_rule :
-      (l r : CellTree) (got : GoalTree) → rewrite_same l r ≡ Some got → HasParts f ob (Same l r) → IsRewriting f ob (Same l r) got
+      (l r : CellTree) (got : GoalTree) → rewrite_same l r ≡ Some got → HasParts f ob (Same l r)
+      → IsRewriting f ob (Same l r) got
   same_rule l r got e h = left_rule l r h (read_step l) refl got e
 
 -- a comparison is always rewritten
@@ -322,7 +333,8 @@ left_goes_on (Char ch) r None s e =
 left_goes_on (Dead cell) r None s e =
     let found = finished_where (Dead cell) s refl in right_goes_on (Dead cell) r found.0 found.1 (read_step r) refl e
 left_goes_on (Over ch cell) r None s e =
-    let found = finished_where (Over ch cell) s refl in right_goes_on (Over ch cell) r found.0 found.1 (read_step r) refl e
+    let found = finished_where (Over ch cell) s refl in
+    right_goes_on (Over ch cell) r found.0 found.1 (read_step r) refl e
 left_goes_on (If g on_yes on_no) r None s e = cc
 
 pub same_goes_on : (l r : CellTree) → rewrite_same l r ≢ None

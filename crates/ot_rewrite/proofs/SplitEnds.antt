@@ -8,13 +8,15 @@ use Rattle.ot_questions.specs.declared.why.Why.TheVariants.{Undefined}
 use Rattle.ot_terms.specs.Forms as forms
 use Rattle.ot_terms.specs.Forms.{FormTree}
 use Rattle.ot_terms.specs.Goals.{GoalTree, Holds, Fails, If}
-use Rattle.goal_rules.specs.Table.{rewritten}
-use Rattle.ot_rewrite.specs.Splits.{SplitTree, Yes, No, Ask, first_question, RulesLeadTo, there, by_rule, EndsInYes, EndsInNo, EndsAtQuestion, split_of}
+use Rattle.ot_rewrite.specs.Table.{rewritten}
+use Rattle.ot_rewrite.specs.Splits.{SplitTree, Yes, No, Ask, first_question, RulesLeadTo, there, by_rule, EndsInYes}
+use Rattle.ot_rewrite.specs.Splits.{EndsInNo, EndsAtQuestion, split_of}
 use Rattle.ot_rewrite.proofs.SplitForms.{EndsAs, split_is}
 
 -- where no rule is left, there is one end
 one_end :
-    (f : Function) (g h k : GoalTree) → RulesLeadTo f g h → RulesLeadTo f g k → rewritten f h ≡ None → rewritten f k ≡ None → h ≡ k
+    (f : Function) (g h k : GoalTree) → RulesLeadTo f g h → RulesLeadTo f g k → rewritten f h ≡ None
+    → rewritten f k ≡ None → h ≡ k
 one_end f g h k there there s t = refl
 one_end f g h k there (by_rule e l) s t = absurd (cc)
 one_end f g h k (by_rule e l) there s t = absurd (cc)
@@ -50,8 +52,8 @@ module _ (g : FormTree) where
   yes_not_no : EndsInYes g → EndsInNo g → ⊥
   yes_not_no a b =
       let same =
-      one_end ties (tried g) Holds (Fails Undefined) (a ties Holds (Fails Undefined)) (b ties Holds (Fails Undefined)) holds_ends
-      fails_ends
+      one_end ties (tried g) Holds (Fails Undefined) (a ties Holds (Fails Undefined))
+      (b ties Holds (Fails Undefined)) holds_ends fails_ends
       in
       cc
 
@@ -68,8 +70,8 @@ module _ (g : FormTree) where
   no_not_question x y a b =
       let r = b.1 ties Holds (Fails Undefined) in
       let same =
-      one_end ties (tried g) (Fails Undefined) (If (forms.Le x y) r.0 r.1) (a ties Holds (Fails Undefined)) r.2 fails_ends
-      (question_ends x y b.0 ties r.0 r.1)
+      one_end ties (tried g) (Fails Undefined) (If (forms.Le x y) r.0 r.1) (a ties Holds (Fails Undefined)) r.2
+      fails_ends (question_ends x y b.0 ties r.0 r.1)
       in
       cc
 
@@ -111,4 +113,5 @@ module _ (g : FormTree) where
   splits_to_no = ((λ e. subst (EndsAs g) e (split_is g).ends), in_no (split_of g) (split_is g).ends)
 
   pub splits_at_question : (x y : Place) → (first_question (split_of g) ≡ Some (x, y)) ↔ EndsAtQuestion x y g
-  splits_at_question x y = (asked_there (split_of g) x y (split_is g).ends, at_question (split_of g) x y (split_is g).ends)
+  splits_at_question x y =
+      (asked_there (split_of g) x y (split_is g).ends, at_question (split_of g) x y (split_is g).ends)

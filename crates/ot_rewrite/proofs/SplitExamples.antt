@@ -9,7 +9,7 @@ use Rattle.ot_terms.specs.Forms.{FormTree, True, Le, Lt, Eq, And, Or, Not}
 use Rattle.ot_terms.specs.Belonging.{IsPlace, HasPlaces}
 use Rattle.ot_terms.specs.Goals.{Holds, Fails, If}
 use Rattle.ot_rewrite.specs.Splits.{Yes, No, Ask, split_of, comparisons_left, RulesLeadTo, there, by_rule}
-use Rattle.goal_rules.specs.Table.{rewritten}
+use Rattle.ot_rewrite.specs.Table.{rewritten}
 
 -- the positions of two operations, the first one also with an offset
 abbrev a : Place
@@ -64,8 +64,11 @@ led = by_rule refl (by_rule refl (by_rule refl there))
 
 -- small places of the names of a pair
 pub is_place : (x : ℕ) (n : ℕ) → x < 9 → n ≤ 200 → IsPlace 9 (place x (pos n))
-is_place x n name small = record { name = name; near = record { low = omega (arith, ints); high = omega (arith, ints) } }
+is_place x n name small =
+    record { name = name; near = record { low = omega (arith, ints); high = omega (arith, ints) } }
 
 pub less_has_places : HasPlaces 9 (Lt a (place 6 (pos 2)))
-less_has_places =
-    (is_place 3 0 (omega arith) (omega arith), record { name = omega arith; low = omega (arith, ints); high = omega (arith, ints) })
+less_has_places = (
+  is_place 3 0 (omega arith) (omega arith),
+  record { name = omega arith; low = omega (arith, ints); high = omega (arith, ints) },
+)

@@ -1,5 +1,6 @@
 -- What a form is split into.
-use Rattle.std.proofs.Common.{◌≡◌, ℕ, ◌≤◌, ℤ, negsuc, Bool, true, false, not, ◌&&◌, ◌||◌, if◌then◌else◌, nat_eq, int_le, Some, refl, ap, sym, ◌∙◌, subst, arith}
+use Rattle.std.proofs.Common.{◌≡◌, ℕ, ◌≤◌, ℤ, negsuc, Bool, true, false, not, ◌&&◌, ◌||◌, if◌then◌else◌, nat_eq, int_le}
+use Rattle.std.proofs.Common.{Some, refl, ap, sym, ◌∙◌, subst, arith}
 use Rattle.std.proofs.lemmas.Int.{ints}
 use Rattle.std.proofs.lemmas.Bool.{eqb-true, eqb-false, eq-eqb}
 use Rattle.std.specs.Ordering.{int_eq}
@@ -15,9 +16,10 @@ use Rattle.ot_terms.specs.Forms.{FormTree, form_holds}
 use Rattle.ot_terms.specs.Goals.{GoalTree, If}
 use Rattle.ot_terms.specs.Standing.{ask_form}
 use Rattle.ot_terms.specs.Belonging.{HasPlaces}
-use Rattle.goal_rules.specs.Table.{rewritten}
-use Rattle.ot_rewrite.specs.Splits.{SplitTree, Yes, No, Ask, RulesLeadTo, there, by_rule, EndsInYes, EndsInNo, EndsAtQuestion, split_holds, ask_split}
-use Rattle.ot_rewrite.specs.Splits.{comparisons_left, HasFewer, HasSplitPlaces, HasLowOffsets, split_le, split_eq, split_and, split_or, split_not, split_of}
+use Rattle.ot_rewrite.specs.Table.{rewritten}
+use Rattle.ot_rewrite.specs.Splits.{SplitTree, Yes, No, Ask, RulesLeadTo, there, by_rule, EndsInYes, EndsInNo}
+use Rattle.ot_rewrite.specs.Splits.{EndsAtQuestion, split_holds, ask_split, comparisons_left, HasFewer, HasSplitPlaces}
+use Rattle.ot_rewrite.specs.Splits.{HasLowOffsets, split_le, split_eq, split_and, split_or, split_not, split_of}
 use Rattle.ot_rewrite.proofs.FormRules.{IsPlace-before}
 
 -- the offsets of a form with places may be lowered
@@ -56,18 +58,21 @@ unfolding rewritten
 le_rule f x y on_yes on_no same = rw same refl
 
 le_leads :
-    (f : Function) (x y : Place) (c : Bool) (on_yes on_no : GoalTree) → nat_eq x.var y.var ≡ true → int_le x.off y.off ≡ c
+    (f : Function) (x y : Place) (c : Bool) (on_yes on_no : GoalTree)
+    → nat_eq x.var y.var ≡ true → int_le x.off y.off ≡ c
     → RulesLeadTo f (If (forms.Le x y) on_yes on_no) (if c then on_yes else on_no)
 le_leads f x y c on_yes on_no same is =
     by_rule (le_rule f x y on_yes on_no same ∙ ap (λ b. Some (if b then on_yes else on_no)) is) there
 
 same_name_le :
-    (x y : Place) (v : ℕ → ℤ) → nat_eq x.var y.var ≡ true → int_le (integer_at v x) (integer_at v y) ≡ int_le x.off y.off
+    (x y : Place) (v : ℕ → ℤ) → nat_eq x.var y.var ≡ true
+    → int_le (integer_at v x) (integer_at v y) ≡ int_le x.off y.off
 same_name_le x y v same = sym (int_le-same_name (v x.var) (v y.var) x.off y.off (ap v (eqb-true x.var y.var same)))
 
 -- one name compared with itself is yes or no
 le_decided :
-    (x y : Place) (c : Bool) → nat_eq x.var y.var ≡ true → int_le x.off y.off ≡ c → IsSplit (forms.Le x y) (if c then Yes else No)
+    (x y : Place) (c : Bool) → nat_eq x.var y.var ≡ true → int_le x.off y.off ≡ c
+    → IsSplit (forms.Le x y) (if c then Yes else No)
 unfolding ask_form ask_le ask_lt ask_eq
 le_decided x y true same is =
     record {
@@ -91,7 +96,8 @@ by_truth : (b : Bool) → b ≡ (if b then true else not true)
 by_truth true = refl
 by_truth false = refl
 
-le_asked : (x y : Place) → nat_eq x.var y.var ≡ false → IsSplit (forms.Le x y) (Ask x y forms.True (forms.Not forms.True))
+le_asked : (x y : Place) → nat_eq x.var y.var ≡ false
+    → IsSplit (forms.Le x y) (Ask x y forms.True (forms.Not forms.True))
 unfolding ask_form ask_le ask_lt ask_eq
 le_asked x y other =
     record {
@@ -123,8 +129,12 @@ ends_behind k h leads No e =
 ends_behind k h leads (Ask x y a b) e = (
   e.0,
   λ f on_yes on_no.
-      let r = e.1 f on_yes on_no in
-      (r.0, r.1, joined f (If k on_yes on_no) (If h on_yes on_no) (If (forms.Le x y) r.0 r.1) (leads f on_yes on_no) r.2),
+      let r = e.1 f on_yes on_no in (
+        r.0,
+        r.1,
+        joined f (If k on_yes on_no) (If h on_yes on_no) (If (forms.Le x y) r.0 r.1)
+            (leads f on_yes on_no) r.2,
+      ),
 )
 
 fewer_of_more : (k h : FormTree) (s : SplitTree) → comparisons_left h ≤ comparisons_left k → HasFewer h s → HasFewer k s
@@ -151,7 +161,8 @@ if_itself true = refl
 if_itself false = refl
 
 eq_truth :
-    (i j : ℤ) (c d : Bool) → int_le i j ≡ c → int_le j i ≡ d → int_eq i j ≡ (if c then (if d then true else false) else false)
+    (i j : ℤ) (c d : Bool) → int_le i j ≡ c → int_le j i ≡ d
+    → int_eq i j ≡ (if c then (if d then true else false) else false)
 eq_truth i j c d forth back =
     sym (if_itself (int_eq i j))
     ∙ (sym (if_eq i j true false)
@@ -177,7 +188,8 @@ eq_decided x y true true same other is back =
           (le_leads f x y true (If (forms.Le y x) on_yes on_no) on_no same is)
           (le_leads f y x true on_yes on_no other back));
       truth = λ v.
-          eq_truth (integer_at v x) (integer_at v y) true true (same_name_le x y v same ∙ is) (same_name_le y x v other ∙ back);
+          eq_truth (integer_at v x) (integer_at v y) true true (same_name_le x y v same ∙ is)
+          (same_name_le y x v other ∙ back);
       asks = λ p q. le_asks x y true (ask_le y x p q) q same is ∙ le_asks y x true p q other back;
       fewer = tt;
       places = λ count h. tt;
@@ -190,7 +202,8 @@ eq_decided x y true false same other is back =
           (le_leads f x y true (If (forms.Le y x) on_yes on_no) on_no same is)
           (le_leads f y x false on_yes on_no other back));
       truth = λ v.
-          eq_truth (integer_at v x) (integer_at v y) true false (same_name_le x y v same ∙ is) (same_name_le y x v other ∙ back);
+          eq_truth (integer_at v x) (integer_at v y) true false (same_name_le x y v same ∙ is)
+          (same_name_le y x v other ∙ back);
       asks = λ p q. le_asks x y true (ask_le y x p q) q same is ∙ le_asks y x false p q other back;
       fewer = tt;
       places = λ count h. tt;
@@ -199,18 +212,21 @@ eq_decided x y false d same other is back =
     record {
       ends = λ f on_yes on_no. by_rule refl (le_leads f x y false (If (forms.Le y x) on_yes on_no) on_no same is);
       truth = λ v.
-          eq_truth (integer_at v x) (integer_at v y) false d (same_name_le x y v same ∙ is) (same_name_le y x v other ∙ back);
+          eq_truth (integer_at v x) (integer_at v y) false d (same_name_le x y v same ∙ is)
+          (same_name_le y x v other ∙ back);
       asks = λ p q. le_asks x y false (ask_le y x p q) q same is;
       fewer = tt;
       places = λ count h. tt;
     }
 
 -- an equality of two names asks at first whether the one is at most the other
-eq_asked : (x y : Place) → nat_eq x.var y.var ≡ false → IsSplit (forms.Eq x y) (Ask x y (forms.Le y x) (forms.Not forms.True))
+eq_asked : (x y : Place) → nat_eq x.var y.var ≡ false
+    → IsSplit (forms.Eq x y) (Ask x y (forms.Le y x) (forms.Not forms.True))
 unfolding ask_form ask_eq rewritten ask_le ask_lt
 eq_asked x y other =
     record {
-      ends = (eqb-false x.var y.var other, λ f on_yes on_no. (If (forms.Le y x) on_yes on_no, on_no, by_rule refl there));
+      ends =
+          (eqb-false x.var y.var other, λ f on_yes on_no. (If (forms.Le y x) on_yes on_no, on_no, by_rule refl there));
       truth = λ v.
           let i = integer_at v x in
           let j = integer_at v y in
@@ -223,10 +239,12 @@ eq_asked x y other =
 
 eq_split_by :
     (x y : Place) (b : Bool) → nat_eq x.var y.var ≡ b
-    → IsSplit (forms.Eq x y) (if b then (if int_eq x.off y.off then Yes else No) else Ask x y (forms.Le y x) (forms.Not forms.True))
+    → IsSplit (forms.Eq x y) (if b then (if int_eq x.off y.off then Yes else No)
+    else Ask x y (forms.Le y x) (forms.Not forms.True))
 eq_split_by x y true same =
     subst (IsSplit (forms.Eq x y)) (if_eq x.off y.off Yes No)
-    (eq_decided x y (int_le x.off y.off) (int_le y.off x.off) same (eq-eqb y.var x.var (sym (eqb-true x.var y.var same))) refl refl)
+    (eq_decided x y (int_le x.off y.off) (int_le y.off x.off) same
+    (eq-eqb y.var x.var (sym (eqb-true x.var y.var same))) refl refl)
 eq_split_by x y false other = eq_asked x y other
 
 eq_split : (x y : Place) → IsSplit (forms.Eq x y) (split_eq x y)
@@ -237,7 +255,8 @@ and_split : (g h : FormTree) (s t : SplitTree) → IsSplit g s → IsSplit h t �
 unfolding ask_form rewritten
 and_split g h Yes t one other =
     record {
-      ends = ends_behind (forms.And g h) h (λ f on_yes on_no. by_rule refl (one.ends f (If h on_yes on_no) on_no)) t other.ends;
+      ends = ends_behind (forms.And g h) h
+          (λ f on_yes on_no. by_rule refl (one.ends f (If h on_yes on_no) on_no)) t other.ends;
       truth = λ v. ap (λ b. b && form_holds v h) (one.truth v) ∙ other.truth v;
       asks = λ p q. one.asks (ask_form h p q) q ∙ other.asks p q;
       fewer = fewer_of_more (forms.And g h) h t (omega arith) other.fewer;
@@ -259,7 +278,8 @@ and_split g h (Ask x y a b) t one other =
       );
       truth = λ v.
           ap (λ c. c && form_holds v h) (one.truth v)
-          ∙ sym (if_through (λ c. c && form_holds v h) (int_le (integer_at v x) (integer_at v y)) (form_holds v a) (form_holds v b));
+          ∙ sym (if_through (λ c. c && form_holds v h) (int_le (integer_at v x) (integer_at v y))
+          (form_holds v a) (form_holds v b));
       asks = λ p q. one.asks (ask_form h p q) q;
       fewer = (omega (arith, one.fewer.0), omega (arith, one.fewer.1));
       places = λ count p. let r = one.places count p.0 in (r.0, r.1, (r.2, p.1), (r.3, p.1));
@@ -270,7 +290,8 @@ or_split : (g h : FormTree) (s t : SplitTree) → IsSplit g s → IsSplit h t �
 unfolding ask_form rewritten
 or_split g h No t one other =
     record {
-      ends = ends_behind (forms.Or g h) h (λ f on_yes on_no. by_rule refl (one.ends f on_yes (If h on_yes on_no))) t other.ends;
+      ends = ends_behind (forms.Or g h) h
+          (λ f on_yes on_no. by_rule refl (one.ends f on_yes (If h on_yes on_no))) t other.ends;
       truth = λ v. ap (λ b. b || form_holds v h) (one.truth v) ∙ other.truth v;
       asks = λ p q. one.asks p (ask_form h p q) ∙ other.asks p q;
       fewer = fewer_of_more (forms.Or g h) h t (omega arith) other.fewer;
@@ -292,7 +313,8 @@ or_split g h (Ask x y a b) t one other =
       );
       truth = λ v.
           ap (λ c. c || form_holds v h) (one.truth v)
-          ∙ sym (if_through (λ c. c || form_holds v h) (int_le (integer_at v x) (integer_at v y)) (form_holds v a) (form_holds v b));
+          ∙ sym (if_through (λ c. c || form_holds v h) (int_le (integer_at v x) (integer_at v y))
+          (form_holds v a) (form_holds v b));
       asks = λ p q. one.asks p (ask_form h p q);
       fewer = (omega (arith, one.fewer.0), omega (arith, one.fewer.1));
       places = λ count p. let r = one.places count p.0 in (r.0, r.1, (r.2, p.1), (r.3, p.1));

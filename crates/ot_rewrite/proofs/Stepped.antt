@@ -8,7 +8,7 @@ use Rattle.ot_terms.specs.Belonging.{IsGoalOf}
 use Rattle.ot_terms.proofs.GoalTruth.{goal_holds_alike}
 use Rattle.ot_rewrite.specs.Fronts.{is_at_front}
 use Rattle.ot_rewrite.specs.Reaching.{IsStep}
-use Rattle.goal_rules.specs.Table.{rewritten}
+use Rattle.ot_rewrite.specs.Table.{rewritten}
 use Rattle.ot_rewrite.proofs.FrontLaws.{goal_stops}
 use Rattle.ot_rewrite.proofs.RulesKept.{rule_kept, rule_belongs}
 
@@ -31,7 +31,8 @@ module _ (f : Function) (ob : ObName) (valid : IsTrue (is_valid f)) (old : GoalT
   step_kept tree (Some g) e = rule_steps (tree g) (sym e)
 
   pub step_stops :
-      {X : Type 0} (tree : X → GoalTree) (o : Option X) → option_map tree o ≡ rewritten f old → IsTrue (is_at_front old) → o ≡ None
+      {X : Type 0} (tree : X → GoalTree) (o : Option X) → option_map tree o ≡ rewritten f old
+      → IsTrue (is_at_front old) → o ≡ None
   step_stops tree None e front = refl
   step_stops tree (Some g) e front =
       let none : rewritten f old ≡ None = (goal_stops f old).1 front in

@@ -8,7 +8,7 @@ use Rattle.ot_terms.specs.Standing.{ask_goal}
 use Rattle.ot_terms.specs.Truth.{goal_holds}
 use Rattle.ot_terms.specs.Weights.{goal_weight}
 use Rattle.ot_terms.specs.Belonging.{IsGoalOf}
-use Rattle.goal_rules.specs.Table.{rewritten}
+use Rattle.ot_rewrite.specs.Table.{rewritten}
 
 -- the goal after so many rules; none where fewer of them fit
 abbrev pub after_rules : Function → ℕ → GoalTree → Option GoalTree

@@ -16,7 +16,7 @@ use Rattle.ot_terms.specs.Standing.{ask_form}
 use Rattle.ot_terms.specs.Belonging.{IsPlace, HasPlaces}
 use Rattle.ot_rewrite.specs.declared.question.Split.{Split}
 use Rattle.ot_rewrite.specs.declared.question.Split.TheVariants as rust
-use Rattle.goal_rules.specs.Table.{rewritten}
+use Rattle.ot_rewrite.specs.Table.{rewritten}
 
 -- the first question of a form, with the forms that are left behind either answer; or the truth where nothing
 -- is asked

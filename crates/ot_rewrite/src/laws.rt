@@ -9,7 +9,7 @@ ghost use Rattle.ot_terms.specs.Standing.{ask_goal};
 ghost use Rattle.ot_terms.specs.Truth.{goal_holds};
 ghost use Rattle.ot_terms.specs.Weights.{goal_weight};
 ghost use Rattle.ot_terms.specs.Belonging.{IsGoalOf};
-ghost use Rattle.goal_rules.specs.Table.{rewrite_if, rewritten};
+ghost use Rattle.ot_rewrite.specs.Table.{rewrite_if, rewritten};
 ghost use Rattle.ot_rewrite.specs.Fronts.{is_at_front};
 
 /// A rule makes of a goal one that asks the same, is true at the same valuations, is of the same function

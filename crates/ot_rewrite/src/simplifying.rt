@@ -9,12 +9,12 @@ ghost use Rattle.ot_terms.specs.Truth.{goal_holds};
 ghost use Rattle.ot_terms.specs.Weights.{goal_weight};
 ghost use Rattle.ot_rewrite.specs.Fronts.{is_at_front};
 ghost use Rattle.ot_rewrite.specs.Reaching.{Reaches};
-ghost use Rattle.goal_rules.specs.Steps.{front_tree};
+ghost use Rattle.ot_rewrite.specs.Steps.{front_tree};
 
+use crate::{Front, rewrite};
 use ask_core::NoMemory;
 use bumpalo::Bump;
 use fn_rules::{Rules, rules_are_valid};
-use goal_rules::{Front, rewrite};
 use ot_terms::Goal;
 
 #[inline]

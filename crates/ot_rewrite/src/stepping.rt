@@ -7,17 +7,17 @@ ghost use Rattle.ot_terms.specs.Belonging.{IsGoalOf};
 ghost use Rattle.ot_terms.specs.Goals.{goal_tree};
 ghost use Rattle.ot_rewrite.specs.Fronts.{is_at_front};
 ghost use Rattle.ot_rewrite.specs.Reaching.{IsStep};
-ghost use Rattle.goal_rules.specs.Steps.{front_tree};
-ghost use Rattle.goal_rules.specs.Table.{rewritten};
+ghost use Rattle.ot_rewrite.specs.Steps.{front_tree};
+ghost use Rattle.ot_rewrite.specs.Table.{rewritten};
 
+use crate::{Front, rewrite};
 use ask_core::NoMemory;
 use bumpalo::Bump;
 use fn_rules::{Rules, rules_are_valid};
-use goal_rules::{Front, rewrite};
 use ot_terms::{Form, Goal};
 
 // The part that is left where the form of a goal is decided.
-#[tactic(auto, unfolding(goal_rules::specs::Table::rewritten))]
+#[tactic(auto, unfolding(crate::specs::Table::rewritten))]
 fn part_of<'a>(goal: &'a Goal<'a>) -> Option<&'a Goal<'a>>
     ensures { (f : Function) → MatchOption result (Unit {0})
         (λ r. rewritten f (goal_tree goal.now) ≡ Some (goal_tree r.now)) }

@@ -44,7 +44,8 @@ module _ {W : Type 0} where
 
     -- only a token is refused
     part_refused :
-        (point : Point W) (bytes rest : List ℕ) (p : Part) (e : CheckError) → Stands point.place p → bytes ≡ part_text point.place p ++ rest
+        (point : Point W) (bytes rest : List ℕ) (p : Part) (e : CheckError) → Stands point.place p
+        → bytes ≡ part_text point.place p ++ rest
         → branches_behind plan point p ≡ Err e → HasAnswer point bytes
     part_refused point bytes rest (part.Tok t) e stands is refused = (
       Err (end_of_token point.offset e),
@@ -57,7 +58,8 @@ module _ {W : Type 0} where
     part_refused point bytes rest part.End e stands is refused = absurd (cc)
 
     part_judged :
-        (point : Point W) (bytes rest : List ℕ) (p : Part) → Stands point.place p → bytes ≡ part_text point.place p ++ rest
+        (point : Point W) (bytes rest : List ℕ) (p : Part) → Stands point.place p
+        → bytes ≡ part_text point.place p ++ rest
         → ((branches : List (Branch W)) → HasAnswer (point_behind point p branches) rest)
         → (o : Result (List (Branch W)) CheckError) → branches_behind plan point p ≡ o → HasAnswer point bytes
     part_judged point bytes rest p stands is later (Ok branches) opens =

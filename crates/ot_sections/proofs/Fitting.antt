@@ -1,5 +1,6 @@
 -- Sections of trees that fit are made of parts that fit, and back.
-use Rattle.std.proofs.Common.{◌≡◌, ℕ, ◌+◌, ◌<◌, List, [], ◌∷◌, ◌++◌, length, Result, Ok, arith, refl, sym, ap, subst, ◌∙◌, append_assoc}
+use Rattle.std.proofs.Common.{◌≡◌, ℕ, ◌+◌, ◌<◌, List, [], ◌∷◌, ◌++◌, length, Result, Ok, arith, refl, sym, ap, subst}
+use Rattle.std.proofs.Common.{◌∙◌, append_assoc}
 use Rattle.std.proofs.lemmas.List.{append-nil}
 use Rattle.fn_rules.specs.declared.function.ObName.{ObName}
 use Rattle.ask_core.specs.declared.tree.Tok.{Tok}
@@ -27,7 +28,8 @@ module _ {W : Type 0} (plan : ObName → Plan W) where
 
   -- a part that fits, and what is judged behind it
   pub judged_behind :
-      (end : Result (Unit {0}) JudgeError) (point : Point W) (p : Part) (bytes rest : List ℕ) (branches : List (Branch W))
+      (end : Result (Unit {0}) JudgeError) (point : Point W) (p : Part) (bytes rest : List ℕ)
+      (branches : List (Branch W))
       → Stands point.place p → bytes ≡ part_text point.place p ++ rest → branches_behind plan point p ≡ Ok branches
       → IsJudged plan end (point_behind point p branches) rest → IsJudged plan end point bytes
   judged_behind end point p bytes rest branches stands is opens judged =
@@ -46,7 +48,8 @@ module _ {W : Type 0} (plan : ObName → Plan W) where
     tokens_fit came names (t ∷ tokens) [] offset tail spellable whole go = absurd (cc)
     tokens_fit came names (t ∷ tokens) (b ∷ branches) offset tail spellable whole go =
         let taken = first_taken by_token t tokens (b ∷ branches) (few_picks t spellable.0) whole in
-        let behind = tokens_fit came names tokens taken.next (offset + length (token_text t)) tail spellable.1 taken.rest go in
+        let behind = tokens_fit came names tokens taken.next (offset + length (token_text t)) tail
+        spellable.1 taken.rest go in
         let some : 0 < length (b ∷ branches) = omega arith in
         judged_behind end (point_at (Tree came names (length (b ∷ branches))) offset (b ∷ branches)) (part.Tok t)
         (tokens_text (t ∷ tokens) ++ tail) (tokens_text tokens ++ tail) taken.next (some, spellable.0)
@@ -64,9 +67,11 @@ module _ {W : Type 0} (plan : ObName → Plan W) where
     sections_fit [] (t ∷ trees) came offset tail answers go = absurd answers
     sections_fit (ob ∷ obs) [] came offset tail answers go = absurd answers
     sections_fit (ob ∷ obs) (t ∷ trees) came offset tail answers go =
-        let later : (o : ℕ) → IsJudged plan end (point_at (Line (came + 1) obs) o []) (sections_text obs trees ++ tail) =
+        let later : (o : ℕ)
+        → IsJudged plan end (point_at (Line (came + 1) obs) o []) (sections_text obs trees ++ tail) =
         λ o. sections_fit obs trees (came + 1) o tail answers.2 go in
-        let closed : (o : ℕ) → IsJudged plan end (point_at (Tree (came + 1) obs 0) o []) (10 ∷ (sections_text obs trees ++ tail)) =
+        let closed : (o : ℕ)
+        → IsJudged plan end (point_at (Tree (came + 1) obs 0) o []) (10 ∷ (sections_text obs trees ++ tail)) =
         λ o. judged_behind end (point_at (Tree (came + 1) obs 0) o []) part.LineEnd
         (10 ∷ (sections_text obs trees ++ tail)) (sections_text obs trees ++ tail) [] refl refl refl (later (o + 1)) in
         let first : Branch W = record { plan = plan ob; answers = [] } in
@@ -81,7 +86,8 @@ module _ {W : Type 0} (plan : ObName → Plan W) where
   -- no further part comes behind the last line
   pub last_line_fits : (came offset : ℕ) → IsJudged plan (Ok tt) (point_at (Line came []) offset []) end_text
   last_line_fits came offset =
-      judged_behind (Ok tt) (point_at (Line came []) offset []) part.End end_text [] [] tt (sym (append-nil end_text)) refl
+      judged_behind (Ok tt) (point_at (Line came []) offset []) part.End end_text [] [] tt
+      (sym (append-nil end_text)) refl
       ([], (refl, refl))
 
   -- what parts that fit up to the end show of the bytes from a place on
@@ -95,7 +101,8 @@ module _ {W : Type 0} (plan : ObName → Plan W) where
       × AreAnswers plan obs trees × (bytes ≡ tokens_text tokens ++ 10 ∷ (sections_text obs trees ++ end_text))
   Shows Finish branches bytes = bytes ≡ []
 
-  stopped : (place : PartPlace) (branches : List (Branch W)) (bytes : List ℕ) → place ≡ Finish → bytes ≡ [] → Shows place branches bytes
+  stopped : (place : PartPlace) (branches : List (Branch W)) (bytes : List ℕ) → place ≡ Finish → bytes ≡ []
+      → Shows place branches bytes
   stopped (Start tp1 tp2) branches bytes at nothing = tt
   stopped (Line came obs) branches bytes at nothing = absurd (cc)
   stopped (Tree came obs waiting) branches bytes at nothing = absurd (cc)
@@ -126,7 +133,8 @@ module _ {W : Type 0} (plan : ObName → Plan W) where
 
   -- a token that is taken, before the tokens that complete what it leaves
   token_shows :
-      ByToken W → (t : Tok) (obs : List ObName) (came waiting : ℕ) (bytes rest : List ℕ) (branches next : List (Branch W))
+      ByToken W
+      → (t : Tok) (obs : List ObName) (came waiting : ℕ) (bytes rest : List ℕ) (branches next : List (Branch W))
       → (0 < waiting) × IsSpellable t → bytes ≡ token_text t ++ rest → after t branches ≡ Ok next
       → Shows (Tree came obs (open_after waiting t)) next rest → Shows (Tree came obs waiting) branches bytes
   token_shows by_token t obs came waiting bytes rest branches next stands is taken shows counted =
@@ -148,7 +156,8 @@ module _ {W : Type 0} (plan : ObName → Plan W) where
 
   closed_shows :
       (obs : List ObName) (came waiting : ℕ) (bytes rest : List ℕ) (branches : List (Branch W))
-      → waiting ≡ 0 → bytes ≡ 10 ∷ rest → Shows (Line came obs) branches rest → Shows (Tree came obs waiting) branches bytes
+      → waiting ≡ 0 → bytes ≡ 10 ∷ rest → Shows (Line came obs) branches rest
+      → Shows (Tree came obs waiting) branches bytes
   closed_shows obs came waiting bytes rest branches closed is shows counted =
       ([], shows.0, tt, none_open branches (sym closed ∙ counted), shows.1, is ∙ ap (λ (l : List ℕ). 10 ∷ l) shows.2)
 

@@ -1,5 +1,6 @@
 -- How what is judged behind a part is judged of it and what is behind it.
-use Rattle.std.proofs.Common.{◌≡◌, ℕ, List, [], ◌++◌, length, Result, Ok, Err, IfErr, OnOk, inl, inr, refl, sym, ap, subst, ◌∙◌}
+use Rattle.std.proofs.Common.{◌≡◌, ℕ, List, [], ◌++◌, length, Result, Ok, Err, IfErr, OnOk, inl, inr, refl, sym, ap}
+use Rattle.std.proofs.Common.{subst, ◌∙◌}
 use Rattle.fn_rules.specs.declared.function.ObName.{ObName}
 use Rattle.ask_core.specs.declared.tree.Tok.{Tok}
 use Rattle.ask_core.specs.Plans.{Plan}
@@ -16,9 +17,9 @@ use Rattle.refusals.specs.declared.refusal.JudgeError.{JudgeError}
 use Rattle.ot_sections.specs.Parts.{IsJudged, IsRefused, Point, branches_behind, end_of_token, point_behind}
 use Rattle.ot_outside.specs.declared.feed.Feed.{Ghosts}
 use Rattle.ot_sections.specs.Feeding.{Fed, fed}
-use Rattle.ot_sections.specs.Stands.{Came, IsBetween, IsJudgedBehind, IsMisspeltBehind, IsRefusedAnyway, IsRefusedBehind, IsTreeOf, StandLeads, Stand}
-use Rattle.ot_sections.specs.Stands.{reader_place_of}
-use Rattle.ot_sections.specs.Stands.{reader_offset_of, point_of, stand, tree_with}
+use Rattle.ot_sections.specs.Stands.{Came, IsBetween, IsJudgedBehind, IsMisspeltBehind, IsRefusedAnyway}
+use Rattle.ot_sections.specs.Stands.{IsRefusedBehind, IsTreeOf, StandLeads, Stand, reader_place_of, reader_offset_of}
+use Rattle.ot_sections.specs.Stands.{point_of, stand, tree_with}
 use Rattle.ot_sections.proofs.Fitting.{judged_behind}
 use Rattle.ot_sections.proofs.Tokens.{open_as_counted}
 
@@ -26,7 +27,8 @@ module _ {F W : Type 0} (feeds : Ghosts F) (plan : ObName → Plan W) where
   pub leads_same : (was : Stand F W) → StandLeads feeds plan was was
   leads_same was all bytes may = (bytes, may, λ end judged. judged)
 
-  pub leads_on : (one two three : Stand F W) → StandLeads feeds plan one two → StandLeads feeds plan two three → StandLeads feeds plan one three
+  pub leads_on : (one two three : Stand F W) → StandLeads feeds plan one two → StandLeads feeds plan two three
+      → StandLeads feeds plan one three
   leads_on one two three first second all rest may =
       let there = second all rest may in
       let here = first all there.0 there.1 in
@@ -35,15 +37,16 @@ module _ {F W : Type 0} (feeds : Ghosts F) (plan : ObName → Plan W) where
   -- a part that comes leads behind it
   pub part_leads :
       (was now : Fed F) (item : Item) (branches next : List (Branch W)) → Came feeds was now item
-      → branches_behind plan (point_of (stand was branches)) item.part ≡ Ok next → StandLeads feeds plan (stand was branches) (stand now next)
+      → branches_behind plan (point_of (stand was branches)) item.part ≡ Ok next
+      → StandLeads feeds plan (stand was branches) (stand now next)
   part_leads was now item branches next comes opens all rest may =
       let there : point_of (stand now next) ≡ point_behind (point_of (stand was branches)) item.part next =
       ap (λ (r : ReaderState). point_of (stand (fed r now.feed) next)) comes.part.behind in (
         part_text (reader_place_of was.reader) item.part ++ rest,
         comes.bytes all rest may,
         λ end judged.
-            judged_behind plan end (point_of (stand was branches)) item.part (part_text (reader_place_of was.reader) item.part ++ rest) rest next
-            comes.part.stands refl opens
+            judged_behind plan end (point_of (stand was branches)) item.part
+            (part_text (reader_place_of was.reader) item.part ++ rest) rest next comes.part.stands refl opens
             (subst (λ (p : Point W). IsJudged plan end p rest) there judged),
       )
 
@@ -56,14 +59,16 @@ module _ {F W : Type 0} (feeds : Ghosts F) (plan : ObName → Plan W) where
       let there = leads all later.0 later.1 in (there.0, there.1, there.2 end later.2)
 
   pub refused_through :
-      (one two : Stand F W) (now : F) (e : JudgeError) → StandLeads feeds plan one two → IsRefusedBehind feeds plan two now e
+      (one two : Stand F W) (now : F) (e : JudgeError) → StandLeads feeds plan one two
+      → IsRefusedBehind feeds plan two now e
       → IsRefusedBehind feeds plan one now e
   refused_through one two now e leads behind refused = judged_through one two now (Err e) leads (behind refused)
 
   -- the same of an answer
   pub answers_through :
       (one two : Stand F W) (now : F) (answer : Result (Unit {0}) JudgeError) → StandLeads feeds plan one two
-      → OnOk answer (IsJudgedBehind feeds plan two now (Ok tt)) → OnOk answer (IsJudgedBehind feeds plan one now (Ok tt))
+      → OnOk answer (IsJudgedBehind feeds plan two now (Ok tt))
+      → OnOk answer (IsJudgedBehind feeds plan one now (Ok tt))
   answers_through one two now (Ok done) leads judged = judged_through one two now (Ok tt) leads judged
   answers_through one two now (Err e) leads judged = tt
 
@@ -124,12 +129,15 @@ module _ {F : Type 0} (feeds : Ghosts F) (was now : Fed F) where
   -- behind a token it is where the token leaves it, and in the same tree
   pub behind_token :
       {W : Type 0} (offset : ℕ) (t : Tok) (branches next : List (Branch W))
-      → Came feeds was now (record { offset = offset; part = part.Tok t }) → IsTreeOf (length branches) (reader_place_of was.reader)
+      → Came feeds was now (record { offset = offset; part = part.Tok t })
+      → IsTreeOf (length branches) (reader_place_of was.reader)
       → after t branches ≡ Ok next
-      → IsTreeOf (length next) (reader_place_of now.reader) × (tree_with 0 (reader_place_of now.reader) ≡ tree_with 0 (reader_place_of was.reader))
+      → IsTreeOf (length next) (reader_place_of now.reader)
+      × (tree_with 0 (reader_place_of now.reader) ≡ tree_with 0 (reader_place_of was.reader))
   behind_token offset t branches next comes is taken =
       let place = token_place (reader_place_of was.reader) t (length branches) is in
-      let here : reader_place_of now.reader ≡ place_after (reader_place_of was.reader) (part.Tok t) = ap reader_place_of comes.part.behind in (
+      let here : reader_place_of now.reader ≡ place_after (reader_place_of was.reader) (part.Tok t) =
+      ap reader_place_of comes.part.behind in (
         subst (λ (n : ℕ). IsTreeOf n (reader_place_of now.reader)) (sym (open_as_counted t branches next taken))
             (subst (λ (p : PartPlace). IsTreeOf (open_after (length branches) t) p) (sym here) place.0),
         ap (tree_with 0) here ∙ place.1,

@@ -56,7 +56,8 @@ module _ {F : Type 0} (feeds : Ghosts F) where
       }
 
   pub rose_later :
-      (one two three : F) → KeepsFeed one two → Rose (feeds.faults two) (feeds.faults three) → Rose (feeds.faults one) (feeds.faults three)
+      (one two three : F) → KeepsFeed one two → Rose (feeds.faults two) (feeds.faults three)
+      → Rose (feeds.faults one) (feeds.faults three)
   rose_later one two three a rose = omega (arith, a.more_faults)
 
   -- on the way, where nothing ended
@@ -71,10 +72,16 @@ module _ {F : Type 0} (feeds : Ghosts F) where
 
   -- a call behind others
   pub leaves_on :
-      {T : Type 0} (one two three : Fed F) (answer : Result T JudgeError) → GoesOn one two → Leaves feeds two three answer
+      {T : Type 0} (one two three : Fed F) (answer : Result T JudgeError) → GoesOn one two
+      → Leaves feeds two three answer
       → Leaves feeds one three answer
   leaves_on one two three (Ok x) a b =
-      record { kept = kept_on one.feed two.feed three.feed a.kept b.kept; room = omega (arith, a.room, b.room); spent = tt; failed = tt }
+      record {
+        kept = kept_on one.feed two.feed three.feed a.kept b.kept;
+        room = omega (arith, a.room, b.room);
+        spent = tt;
+        failed = tt;
+      }
   leaves_on one two three (Err e) a b =
       record {
         kept = kept_on one.feed two.feed three.feed a.kept b.kept;
@@ -85,7 +92,8 @@ module _ {F : Type 0} (feeds : Ghosts F) where
 
   -- the same error of an answer of another kind
   pub leaves_as :
-      {T U : Type 0} (was now : Fed F) (e : JudgeError) → Leaves {T = T} feeds was now (Err e) → Leaves {T = U} feeds was now (Err e)
+      {T U : Type 0} (was now : Fed F) (e : JudgeError) → Leaves {T = T} feeds was now (Err e)
+      → Leaves {T = U} feeds was now (Err e)
   leaves_as was now e h = record { kept = h.kept; room = tt; spent = h.spent; failed = h.failed }
 
   -- an error that speaks of no byte
@@ -105,7 +113,12 @@ module _ {F : Type 0} (feeds : Ghosts F) where
   pub not_yet : (one : Fed F) → GoesOn one one
   not_yet one =
       record {
-        kept = record { more_faults = omega arith; no_more_bytes = omega arith; same_object = refl; still_keeps = λ before h. h };
+        kept = record {
+          more_faults = omega arith;
+          no_more_bytes = omega arith;
+          same_object = refl;
+          still_keeps = λ before h. h;
+        };
         room = omega arith;
         spent = tt;
         failed = tt;
@@ -113,4 +126,5 @@ module _ {F : Type 0} (feeds : Ghosts F) where
 
   -- a feed that is asked, and a reader that is not
   pub asked_on : (reader : ReaderState) (was now : F) → KeepsFeed was now → GoesOn (fed reader was) (fed reader now)
-  asked_on reader was now kept = record { kept = kept; room = omega (arith, kept.no_more_bytes); spent = tt; failed = tt }
+  asked_on reader was now kept =
+      record { kept = kept; room = omega (arith, kept.no_more_bytes); spent = tt; failed = tt }

@@ -8,3 +8,4 @@ mod Premises
 mod Taking
 mod Tokens
 mod TreeRun
+pub mod Numbers

@@ -1,6 +1,6 @@
 -- Bytes have one judgement: the parts that fit are determined by the bytes, and so is where they stop.
-use Rattle.std.proofs.Common.{◌≡◌, ℕ, ◌<◌, List, [], ◌∷◌, ◌++◌, length, Result, Ok, Err, inl, inr, arith, refl, sym, ap, subst, ◌∙◌, append_assoc}
-use Rattle.std.proofs.Common.{length-append}
+use Rattle.std.proofs.Common.{◌≡◌, ℕ, ◌<◌, List, [], ◌∷◌, ◌++◌, length, Result, Ok, Err, inl, inr, arith, refl, sym, ap}
+use Rattle.std.proofs.Common.{subst, ◌∙◌, append_assoc, length-append}
 use Rattle.std.proofs.lemmas.List.{append-nil}
 use Rattle.fn_rules.specs.declared.function.ObName.{ObName}
 use Rattle.ask_core.specs.declared.tree.Tok.{Tok}
@@ -15,7 +15,8 @@ use Rattle.cert_text.specs.declared.item.CertError.TheVariants as cert
 use Rattle.cert_text.specs.Places.{PartPlace, Start, Line, Tree, Finish, Stands, part_text}
 use Rattle.cert_text.specs.Reading.{EndsThere, HasNoPart, IsFrontOfPart}
 use Rattle.refusals.specs.declared.refusal.JudgeError.{JudgeError}
-use Rattle.ot_sections.specs.Parts.{Point, branches_behind, end_of_token, point_behind, FitThen, StopsThere, IsRefusedToken}
+use Rattle.ot_sections.specs.Parts.{Point, branches_behind, end_of_token, point_behind, FitThen, StopsThere}
+use Rattle.ot_sections.specs.Parts.{IsRefusedToken}
 use Rattle.refusals.specs.Spelling.{end_of_spelling}
 use Rattle.ot_sections.proofs.Tokens.{same_ok}
 
@@ -49,7 +50,8 @@ module _ (one_part : OnePart) (takes_bytes : TakesBytes) where
       omega (arith, takes_bytes place p stands, ap length (sym is ∙ nothing), length-append (part_text place p) rest)
   not_a_front place bytes rest p stands is (inr (q, more, other_stands, some, text)) =
       let whole : part_text place q ++ [] ≡ part_text place p ++ (rest ++ more) =
-      append-nil (part_text place q) ∙ text ∙ ap (λ (l : List ℕ). l ++ more) is ∙ append_assoc (part_text place p) rest more in
+      append-nil (part_text place q) ∙ text ∙ ap (λ (l : List ℕ). l ++ more) is
+      ∙ append_assoc (part_text place p) rest more in
       let same = one_part place q p [] (rest ++ more) other_stands stands whole in
       omega (arith, some, ap length same.1, length-append rest more)
 
@@ -61,9 +63,11 @@ module _ (one_part : OnePart) (takes_bytes : TakesBytes) where
   part_goes_on place offset bytes rest p (Err (cert.BadToken at)) stands is end = (end.3 p rest stands).1 is
   part_goes_on place offset bytes rest p (Err (cert.Truncated at)) stands is end =
       not_a_front place bytes rest p stands is end.2
-  part_goes_on place offset bytes rest p (Err (cert.Trailing at)) stands is end = nothing_stands_behind place p end.1 stands
+  part_goes_on place offset bytes rest p (Err (cert.Trailing at)) stands is end =
+      nothing_stands_behind place p end.1 stands
 
-  bad_is_no_front : (place : PartPlace) (bytes : List ℕ) → 0 < length bytes → HasNoPart place bytes → IsFrontOfPart place bytes → ⊥
+  bad_is_no_front : (place : PartPlace) (bytes : List ℕ) → 0 < length bytes → HasNoPart place bytes
+      → IsFrontOfPart place bytes → ⊥
   bad_is_no_front place bytes some none (inl nothing) = omega (arith, some, ap length nothing)
   bad_is_no_front place bytes some none (inr (q, more, stands, left, text)) = (none q more stands).0 text
 
@@ -96,22 +100,26 @@ module _ (one_part : OnePart) (takes_bytes : TakesBytes) where
   module _ {W : Type 0} (plan : ObName → Plan W) where
     -- where a part fits they do not stop
     fit_goes_on :
-        (end : Result (Unit {0}) JudgeError) (point : Point W) (bytes rest : List ℕ) (p : Part) (branches : List (Branch W))
+        (end : Result (Unit {0}) JudgeError) (point : Point W) (bytes rest : List ℕ) (p : Part)
+        (branches : List (Branch W))
         → StopsThere end point bytes → Stands point.place p → bytes ≡ part_text point.place p ++ rest
         → branches_behind plan point p ≡ Ok branches → ⊥
     fit_goes_on (Ok done) point bytes rest p branches stops stands is opens =
         part_goes_on point.place point.offset bytes rest p (Ok tt) stands is stops
     fit_goes_on (Err end) point bytes rest p branches (inl (e, ends, named)) stands is opens =
         part_goes_on point.place point.offset bytes rest p (Err e) stands is ends
-    fit_goes_on (Err end) point bytes rest p branches (inr (t, left, e, there, begins, refused, named)) stands is opens =
+    fit_goes_on (Err end) point bytes rest p branches
+        (inr (t, left, e, there, begins, refused, named)) stands is opens =
         let same = one_part point.place p (part.Tok t) rest left stands there (sym is ∙ begins) in
         let taken : after t point.branches ≡ Ok branches =
         subst (λ (q : Part). branches_behind plan point q ≡ Ok branches) same.0 opens in
         cc
 
     tokens_refused_once :
-        (point : Point W) (bytes : List ℕ) (d e : JudgeError) → IsRefusedToken d point bytes → IsRefusedToken e point bytes → d ≡ e
-    tokens_refused_once point bytes d e (t, rest, why, stands, begins, refused, named) (u, more, other, there, is, answered, called) =
+        (point : Point W) (bytes : List ℕ) (d e : JudgeError) → IsRefusedToken d point bytes
+        → IsRefusedToken e point bytes → d ≡ e
+    tokens_refused_once point bytes d e (t, rest, why, stands, begins, refused, named)
+        (u, more, other, there, is, answered, called) =
         let same = one_part point.place (part.Tok t) (part.Tok u) rest more stands there (sym begins ∙ is) in
         let tokens : t ≡ u = same_token t u same.0 in
         let causes : why ≡ other =
@@ -136,7 +144,8 @@ module _ (one_part : OnePart) (takes_bytes : TakesBytes) where
     stop_once point bytes (Err d) (Ok y) (inr (t, rest, why, stands, begins, refused, named)) b =
         absurd (part_goes_on point.place point.offset bytes rest (part.Tok t) (Ok tt) stands begins b)
     stop_once point bytes (Err d) (Err e) (inl (c, ends, named)) (inl (o, stops, called)) =
-        let same : c ≡ o = same_err c o (spelling_ends_once point.place point.offset bytes (Err c) (Err o) ends stops) in
+        let same : c ≡ o =
+        same_err c o (spelling_ends_once point.place point.offset bytes (Err c) (Err o) ends stops) in
         ap Err (named ∙ ap end_of_spelling same ∙ sym called)
     stop_once point bytes (Err d) (Err e) (inl (c, ends, named)) (inr (t, rest, why, stands, begins, refused, called)) =
         absurd (part_goes_on point.place point.offset bytes rest (part.Tok t) (Err c) stands begins ends)

@@ -1,6 +1,6 @@
 -- Tokens that are taken where they are read.
-use Rattle.std.proofs.Common.{◌≡◌, ℕ, suc, ◌+◌, ◌≤◌, ◌<◌, List, [], ◌∷◌, ◌++◌, length, take, add-zero, Result, Ok, refl, sym}
-use Rattle.std.proofs.Common.{ap, subst, ◌∙◌, arith, append_assoc, length-append}
+use Rattle.std.proofs.Common.{◌≡◌, ℕ, suc, ◌+◌, ◌≤◌, ◌<◌, List, [], ◌∷◌, ◌++◌, length, take, add-zero, Result, Ok, refl}
+use Rattle.std.proofs.Common.{sym, ap, subst, ◌∙◌, arith, append_assoc, length-append}
 use Rattle.std.proofs.lemmas.List.{append-nil}
 use Rattle.fn_rules.specs.declared.function.ObName.{ObName}
 use Rattle.diff_graph.specs.declared.lit.Lit.{Lit}
@@ -18,10 +18,11 @@ use Rattle.ot_outside.specs.declared.feed.Feed.{Ghosts}
 use Rattle.refusals.specs.declared.refusal.JudgeError.{JudgeError}
 use Rattle.ot_sections.specs.Feeding.{Fed, fed}
 use Rattle.ot_sections.specs.Parts.{IsJudged, Point}
-use Rattle.ot_sections.specs.Stands.{IsBetween, IsTreeOf, LeadsAnyway, reader_offset_of, reader_place_of, point_of, stand, tree_with}
+use Rattle.ot_sections.specs.Stands.{IsBetween, IsTreeOf, LeadsAnyway, reader_offset_of, reader_place_of, point_of}
+use Rattle.ot_sections.specs.Stands.{stand, tree_with}
 use Rattle.cert_check.specs.Questions.{SkipsTo}
 use Rattle.ot_sections.specs.Taking.{AreTaken, AreTakenFront, LeaveOpen}
-use Rattle.text_cycles.specs.Cycles.{IsCycleFront}
+use Rattle.ot_sections.specs.Cycles.{IsCycleFront}
 use Rattle.ot_sections.proofs.Coming.{Consumes, IsAsked, Took, given_of, took_of}
 use Rattle.ot_sections.proofs.Fitting.{judged_behind}
 use Rattle.ot_sections.proofs.Leaving.{GoesOn, KeepsFeed}
@@ -47,7 +48,8 @@ take_behind_two b c bytes len = let e : len + 2 ≡ suc (len + 1) = omega arith 
 
 module _ {W : Type 0} where
   LeaveOpen-append :
-      (tokens more : List Tok) (old between new : List (Branch W)) → LeaveOpen tokens old between → LeaveOpen more between new
+      (tokens more : List Tok) (old between new : List (Branch W)) → LeaveOpen tokens old between
+      → LeaveOpen more between new
       → LeaveOpen (tokens ++ more) old new
   LeaveOpen-append [] more old between new leave rest = subst (λ (b : List (Branch W)). LeaveOpen more b new) leave rest
   LeaveOpen-append (t ∷ tokens) more old between new leave rest =
@@ -61,13 +63,14 @@ module _ {W : Type 0} where
   pub more_taken :
       (front more bytes : List ℕ) (len : ℕ) (old between new : List (Branch W)) → AreTaken front old between
       → AreTakenFront between new more len → bytes ≡ front ++ take len more → AreTaken bytes old new
-  more_taken front more bytes len old between new (tokens, spellable, text, leave) (within, (others, fine, others_text, rest)) is = (
-    tokens ++ others,
-    AreSpellable-append tokens others spellable fine,
-    tokens_text-append tokens others ∙ ap (λ (l : List ℕ). l ++ tokens_text others) text
-        ∙ ap (λ (l : List ℕ). front ++ l) others_text ∙ sym is,
-    LeaveOpen-append tokens others old between new leave rest,
-  )
+  more_taken front more bytes len old between new (tokens, spellable, text, leave)
+      (within, (others, fine, others_text, rest)) is = (
+        tokens ++ others,
+        AreSpellable-append tokens others spellable fine,
+        tokens_text-append tokens others ∙ ap (λ (l : List ℕ). l ++ tokens_text others) text
+            ∙ ap (λ (l : List ℕ). front ++ l) others_text ∙ sym is,
+        LeaveOpen-append tokens others old between new leave rest,
+      )
 
   -- one token at the front
   pub one_taken :
@@ -78,7 +81,8 @@ module _ {W : Type 0} where
 
   -- one that is a byte
   pub byte_taken :
-      (b : ℕ) (bytes : List ℕ) (t : Tok) (old new : List (Branch W)) → IsSpellable t → token_text t ≡ b ∷ [] → after t old ≡ Ok new
+      (b : ℕ) (bytes : List ℕ) (t : Tok) (old new : List (Branch W)) → IsSpellable t
+      → token_text t ≡ b ∷ [] → after t old ≡ Ok new
       → AreTakenFront old new (b ∷ bytes) 1
   byte_taken b bytes t old new fine text taken = one_taken (b ∷ bytes) 1 t old new (omega arith) fine text taken
 
@@ -120,12 +124,19 @@ module _ {W : Type 0} where
       )
 
   pub taken_passed :
-      (reader : ReaderState) (bytes : List ℕ) (old new : List (Branch W)) → IsBetween reader → IsTreeOf (length old) (reader_place_of reader)
+      (reader : ReaderState) (bytes : List ℕ) (old new : List (Branch W)) → IsBetween reader
+      → IsTreeOf (length old) (reader_place_of reader)
       → AreTaken bytes old new → IsPassed reader bytes (length new)
-  taken_passed (Reading (Tree came names branches) offset begun) bytes old new between tree (tokens, spellable, text, leave) = (
-    (cc),
-    (tokens, subst (λ (n : ℕ). AreOpen n tokens (length new)) (sym tree) (taken_are_open tokens old new spellable leave), text),
-  )
+  taken_passed (Reading (Tree came names branches) offset begun) bytes old new between tree
+      (tokens, spellable, text, leave) = (
+        (cc),
+        (
+          tokens,
+          subst (λ (n : ℕ). AreOpen n tokens (length new)) (sym tree)
+              (taken_are_open tokens old new spellable leave),
+          text,
+        ),
+      )
   taken_passed (Reading (Start tp1 tp2) offset begun) bytes old new between tree taken = absurd tree
   taken_passed (Reading (Line came names) offset begun) bytes old new between tree taken = absurd tree
   taken_passed (Reading Finish offset begun) bytes old new between tree taken = absurd tree
@@ -133,7 +144,8 @@ module _ {W : Type 0} where
 
 -- a reader that passed tokens is behind them in the same tree
 pub behind_passed :
-    (reader now : ReaderState) (len old new : ℕ) → IsBetween reader → IsTreeOf old (reader_place_of reader) → now ≡ passed reader len new
+    (reader now : ReaderState) (len old new : ℕ) → IsBetween reader → IsTreeOf old (reader_place_of reader)
+    → now ≡ passed reader len new
     → now ≡ Reading (tree_with new (reader_place_of reader)) (reader_offset_of reader + len) []
 behind_passed (Reading (Tree came names branches) offset begun) now len old new between tree is =
     let none : begun ≡ [] = cc in is ∙ ap (λ (l : List ℕ). Reading (Tree came names new) (offset + len) l) none
@@ -155,41 +167,60 @@ module _ {W : Type 0} (plan : ObName → Plan W) (end : Result (Unit {0}) JudgeE
 
   -- what is judged behind tokens that are taken is judged of them and what is behind them
   judged_tokens :
-      (tokens : List Tok) (came : ℕ) (names : List ObName) (branches offset : ℕ) (old new : List (Branch W)) (rest : List ℕ)
+      (tokens : List Tok) (came : ℕ) (names : List ObName) (branches offset : ℕ)
+      (old new : List (Branch W)) (rest : List ℕ)
       → branches ≡ length old → AreSpellable tokens → LeaveOpen tokens old new
-      → IsJudged plan end (record { place = Tree came names (length new); offset = offset + length (tokens_text tokens); branches = new }) rest
-      → IsJudged plan end (record { place = Tree came names branches; offset = offset; branches = old }) (tokens_text tokens ++ rest)
+      → IsJudged plan end (record {
+        place = Tree came names (length new);
+        offset = offset + length (tokens_text tokens);
+        branches = new;
+      }) rest
+      → IsJudged plan end (record { place = Tree came names branches; offset = offset; branches = old })
+      (tokens_text tokens ++ rest)
   judged_tokens [] came names branches offset old new rest is spellable leave judged =
       let here =
-      subst (λ (b : List (Branch W)). IsJudged plan end (record { place = Tree came names (length b); offset = offset + 0; branches = b }) rest)
-      leave judged in
-      subst (λ (n : ℕ). IsJudged plan end (record { place = Tree came names n; offset = offset; branches = old }) rest) (sym is)
-      (subst (λ (n : ℕ). IsJudged plan end (record { place = Tree came names (length old); offset = n; branches = old }) rest)
-      (add-zero offset) here)
+      subst (λ (b : List (Branch W)). IsJudged plan end
+      (record { place = Tree came names (length b); offset = offset + 0; branches = b }) rest) leave judged in
+      subst (λ (n : ℕ). IsJudged plan end (record { place = Tree came names n; offset = offset; branches = old }) rest)
+      (sym is) (subst (λ (n : ℕ). IsJudged plan end
+      (record { place = Tree came names (length old); offset = n; branches = old }) rest) (add-zero offset) here)
   judged_tokens (t ∷ tokens) came names branches offset old new rest is spellable leave judged =
       let next = leave.0 in
       let counted : open_after branches t ≡ length next = rw is (sym (open_as_counted t old next leave.1)) in
-      let offset_is : offset + length (tokens_text (t ∷ tokens)) ≡ (offset + length (token_text t)) + length (tokens_text tokens) =
+      let offset_is : offset + length (tokens_text (t ∷ tokens))
+      ≡ (offset + length (token_text t)) + length (tokens_text tokens) =
       omega (arith, length-append (token_text t) (tokens_text tokens)) in
       let behind =
-      judged_tokens tokens came names (open_after branches t) (offset + length (token_text t)) next new rest counted spellable.1 leave.2
-      (subst (λ (n : ℕ). IsJudged plan end (record { place = Tree came names (length new); offset = n; branches = new }) rest) offset_is judged) in
+      judged_tokens tokens came names (open_after branches t) (offset + length (token_text t)) next new rest
+      counted spellable.1 leave.2
+      (subst (λ (n : ℕ). IsJudged plan end (record { place = Tree came names (length new); offset = n; branches = new })
+      rest) offset_is judged) in
       let some : 0 < branches = rw is (some_open t old next leave.1) in
       rw (append_assoc (token_text t) (tokens_text tokens) rest)
-      (judged_behind plan end (record { place = Tree came names branches; offset = offset; branches = old }) (part.Tok t)
-      (token_text t ++ (tokens_text tokens ++ rest)) (tokens_text tokens ++ rest) next (some, spellable.0) refl leave.1 behind)
+      (judged_behind plan end (record { place = Tree came names branches; offset = offset; branches = old })
+      (part.Tok t)
+      (token_text t ++ (tokens_text tokens ++ rest)) (tokens_text tokens ++ rest) next
+      (some, spellable.0) refl leave.1 behind)
 
   -- so it is at each place, since tokens are taken within a tree alone
   judged_at :
       (place : PartPlace) (offset : ℕ) (bytes rest : List ℕ) (old new : List (Branch W)) → IsTreeOf (length old) place
       → AreTaken bytes old new
-      → IsJudged plan end (record { place = tree_with (length new) place; offset = offset + length bytes; branches = new }) rest
+      → IsJudged plan end
+      (record { place = tree_with (length new) place; offset = offset + length bytes; branches = new }) rest
       → IsJudged plan end (record { place = place; offset = offset; branches = old }) (bytes ++ rest)
   judged_at (Tree came names branches) offset bytes rest old new tree (tokens, spellable, text, leave) judged =
-      subst (λ (l : List ℕ). IsJudged plan end (record { place = Tree came names branches; offset = offset; branches = old }) (l ++ rest)) text
-      (judged_tokens tokens came names branches offset old new rest tree spellable leave
-      (subst (λ (l : List ℕ). IsJudged plan end (record { place = Tree came names (length new); offset = offset + length l; branches = new }) rest)
-      (sym text) judged))
+      subst (λ (l : List ℕ). IsJudged plan end (record {
+        place = Tree came names branches;
+        offset = offset;
+        branches =
+            old;
+      }) (l ++ rest)) text (judged_tokens tokens came names branches offset old new rest tree spellable leave
+      (subst (λ (l : List ℕ). IsJudged plan end (record {
+        place = Tree came names (length new);
+        offset = offset + length l;
+        branches = new;
+      }) rest) (sym text) judged))
   judged_at (Start tp1 tp2) offset bytes rest old new tree taken judged = absurd tree
   judged_at (Line came names) offset bytes rest old new tree taken judged = absurd tree
   judged_at Finish offset bytes rest old new tree taken judged = absurd tree
@@ -198,7 +229,8 @@ module _ {F W : Type 0} (feeds : Ghosts F) (was now : Fed F) (bytes : List ℕ) 
   -- tokens that are taken of a feed lead behind them
   pub leads_taken :
       IsTreeOf (length old) (reader_place_of was.reader) → Took feeds was.feed now.feed bytes → AreTaken bytes old new
-      → now.reader ≡ Reading (tree_with (length new) (reader_place_of was.reader)) (reader_offset_of was.reader + length bytes) []
+      → now.reader ≡ Reading (tree_with (length new) (reader_place_of was.reader))
+      (reader_offset_of was.reader + length bytes) []
       → LeadsAnyway feeds (stand was old) (stand now new)
   leads_taken tree took taken there plan all rest may = (
     bytes ++ rest,
@@ -220,8 +252,10 @@ module _ {F W : Type 0} (feeds : Ghosts F) (was now : Fed F) (old new : List (Br
   -- behind tokens that were taken from what is at hand, the reader is between parts of the same tree
   pub behind_tokens :
       (bytes : List ℕ) (count behind : ℕ) → IsBetween was.reader → IsTreeOf (length old) (reader_place_of was.reader)
-      → (bytes ≡ feeds.hand was.feed) × (count ≤ length bytes) → Consumes feeds was.feed now.feed count → KeepsFeed feeds was.feed now.feed
-      → AreTaken (take count bytes) old new → behind ≡ length new → now.reader ≡ passed was.reader (length (take count bytes)) behind
+      → (bytes ≡ feeds.hand was.feed) × (count ≤ length bytes) → Consumes feeds was.feed now.feed count
+      → KeepsFeed feeds was.feed now.feed
+      → AreTaken (take count bytes) old new → behind ≡ length new
+      → now.reader ≡ passed was.reader (length (take count bytes)) behind
       → IsBehindTokens
   behind_tokens bytes count behind between tree at_hand consumes kept taken counted is =
       let there =
@@ -229,10 +263,12 @@ module _ {F W : Type 0} (feeds : Ghosts F) (was now : Fed F) (old new : List (Br
       (is ∙ ap (λ (n : ℕ). passed was.reader (length (take count bytes)) n) counted) in
       let same : IsAsked feeds was.feed was.feed = record { left = refl; bound = refl; gave = refl } in
       let took = took_of feeds was.feed was.feed now.feed bytes count at_hand same consumes in
-      let place : reader_place_of now.reader ≡ tree_with (length new) (reader_place_of was.reader) = ap reader_place_of there in
+      let place : reader_place_of now.reader ≡ tree_with (length new) (reader_place_of was.reader) =
+      ap reader_place_of there in
       let in_tree = tree_there (reader_place_of was.reader) (length old) (length new) tree in
       let fed_was : fed_to was.reader ≡ reader_offset_of was.reader + 0 = ap fed_to between in
-      let fed_now : fed_to now.reader ≡ (reader_offset_of was.reader + length (take count bytes)) + 0 = ap fed_to there in
+      let fed_now : fed_to now.reader ≡ (reader_offset_of was.reader + length (take count bytes)) + 0 =
+      ap fed_to there in
       record {
         between = there ∙ ap (λ (r : ReaderState). Reading (reader_place_of r) (reader_offset_of r) []) (sym there);
         tree = subst (λ (p : PartPlace). IsTreeOf (length new) p) (sym place) in_tree.0;

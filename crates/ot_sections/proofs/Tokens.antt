@@ -10,7 +10,8 @@ use Rattle.ask_core.specs.Plans.{Plan, Ask, Holds, Fails}
 use Rattle.ask_core.specs.Trees.{AnswerTree, Question, End, Impossible, Branch, Completes, tokens_of}
 use Rattle.cert_check.specs.declared.verdict.CheckError.{CheckError}
 use Rattle.cert_check.specs.declared.verdict.CheckError.TheVariants as check
-use Rattle.cert_check.specs.Steps.{after, branches_after_cycle, branches_after_end, branches_after_question, HasFewPicks}
+use Rattle.cert_check.specs.Steps.{after, branches_after_cycle, branches_after_end, branches_after_question}
+use Rattle.cert_check.specs.Steps.{HasFewPicks}
 use Rattle.cert_text.specs.Spelling.{IsSpellable}
 use Rattle.cert_text.specs.Places.{open_after}
 
@@ -61,7 +62,8 @@ module _ {W : Type 0} where
 
   -- the places count the open branches
   pub open_as_counted :
-      (t : Tok) (branches next : List (Branch W)) → after t branches ≡ Ok next → length next ≡ open_after (length branches) t
+      (t : Tok) (branches next : List (Branch W)) → after t branches ≡ Ok next
+      → length next ≡ open_after (length branches) t
   open_as_counted t [] next taken = absurd (cc)
   open_as_counted token.Ask (b ∷ branches) next taken = question_opens b.plan b.answers b branches next taken
   open_as_counted token.Holds (b ∷ branches) next taken = end_closes b.plan b branches next taken
@@ -94,7 +96,8 @@ module _ {W : Type 0} where
   pub token_wants_none :
       (t : Tok) (branches : List (Branch W)) (why : CheckError) → after t branches ≡ Err why → why ≡ check.NoMemory → ⊥
   token_wants_none t [] why refused memory = cc
-  token_wants_none token.Ask (b ∷ branches) why refused memory = question_wants_none b.plan b.answers branches why refused memory
+  token_wants_none token.Ask (b ∷ branches) why refused memory =
+      question_wants_none b.plan b.answers branches why refused memory
   token_wants_none token.Holds (b ∷ branches) why refused memory = end_wants_none b.plan branches why refused memory
   token_wants_none (token.Cycle picks) (b ∷ branches) why refused memory =
       cycle_wants_none (pick_verdict b.answers picks) branches why refused memory
@@ -106,7 +109,8 @@ module _ {W : Type 0} where
     pub rest : Completes tokens next
 
   taken_by :
-      ByToken W → (t : Tok) (tokens : List Tok) (branches : List (Branch W)) → HasFewPicks t → Completes (t ∷ tokens) branches
+      ByToken W → (t : Tok) (tokens : List Tok) (branches : List (Branch W)) → HasFewPicks t
+      → Completes (t ∷ tokens) branches
       → (answer : Result (List (Branch W)) CheckError) → after t branches ≡ answer → Taken t tokens branches
   taken_by by_token t tokens branches few whole (Ok next) is =
       record { next = next; taken = is; rest = (by_token.taken t tokens branches next few is).0 whole }

@@ -6,3 +6,4 @@ pub mod Stands
 pub mod Taking
 pub use Rattle.cert_text.specs.Places
 pub use Rattle.cert_text.specs.Reading
+pub mod Cycles

@@ -11,7 +11,7 @@ ghost use Rattle.ot_sections.specs.Stands.{opened, plan_behind, reader_place_of,
 ghost use Rattle.ot_sections.specs.Taking.{AreTaken, AreTakenFront};
 
 use crate::part::expect_part;
-use crate::{JudgeError, Refusal};
+use crate::{JudgeError, Refusal, cycle_front};
 use ask_core::{Asker, MAX_QUESTIONS, Premised, Tok};
 use cert_check::{CheckError, Checker, MAX_NAMES};
 use cert_reader::Reader;
@@ -19,7 +19,6 @@ use cert_text::{Item, Part};
 use diff_graph::Lit;
 use ot_outside::Feed;
 use std::alloc::Global;
-use text_cycles::cycle_front;
 
 // The end of a judgement at a token that is not taken.
 fn end_at(offset: u64, end: CheckError) -> JudgeError

@@ -1,6 +1,7 @@
--- A session after one of its sites took an operation. The call that took it names the lists of what was made and of the sites
--- anew; they are those of the session.
-use Rattle.std.proofs.Common.{◌≡◌, ◌≢◌, ◌<◌, ◌≤◌, ◌-◌, ◌+◌, ◌*◌, ◌++◌, ℕ, Bool, true, List, length, map, Result, Err, sym, ◌∙◌, subst, reverse, arith, is_ok, OnOk}
+-- A session after one of its sites took an operation. The call that took it names the lists of what was made
+-- and of the sites anew; they are those of the session.
+use Rattle.std.proofs.Common.{◌≡◌, ◌≢◌, ◌<◌, ◌≤◌, ◌-◌, ◌+◌, ◌*◌, ◌++◌, ℕ, Bool, true, List, length, map, Result, Err}
+use Rattle.std.proofs.Common.{sym, ◌∙◌, subst, reverse, arith, is_ok, OnOk}
 use Rattle.std.specs.Prelude.{slice_get, IfSome}
 use Rattle.std.specs.Coded.{Coded-set, coded_ℕ}
 use Rattle.std.specs.List.{AllByRecursion}
@@ -27,8 +28,9 @@ use Rattle.ot_session.specs.Sites.{view_site, data_of, IsSorted, SiteKeepsForms,
 use Rattle.ot_session.specs.Taking.{TakesAtPlace}
 use Rattle.ot_session.specs.Views.{View, HasTaken, view_of}
 use Rattle.ot_session.proofs.Usable.{GrowByOne, IsUsablePast-sound}
-use Rattle.ot_session.proofs.Taken.{counted-most, CanTake-kept, forms-can, length-taken, TakesAt-taken, sound-taken, all-counted-open, never-stuck-taken}
-use Rattle.ot_session.proofs.Taken.{never-spent-taken, HasTaken-at, OnOk-fine, IfSome-from}
+use Rattle.ot_session.proofs.Taken.{counted-most, CanTake-kept, forms-can, length-taken, TakesAt-taken, sound-taken}
+use Rattle.ot_session.proofs.Taken.{all-counted-open, never-stuck-taken, never-spent-taken, HasTaken-at, OnOk-fine}
+use Rattle.ot_session.proofs.Taken.{IfSome-from}
 
 module _ (s : Session) where
   abbrev rules : Function
@@ -38,13 +40,15 @@ module _ (s : Session) where
   past = past_of s.made.items
 
   -- the operations of a session can be transformed
-  usable : GrowByOne → ((l : List ℕ) → IsClosed past l → length l ≤ length s.made.items) → IsKeptSession rules s.first s.made.items s.sites.items
+  usable : GrowByOne → ((l : List ℕ) → IsClosed past l → length l ≤ length s.made.items)
+      → IsKeptSession rules s.first s.made.items s.sites.items
       → IsUsablePast rules past
-  usable grow short k = IsUsablePast-sound rules grow s.made.items s.first s.few s.small short k.sound.past (length (map view_site s.sites.items))
-      (omega (arith, s.most, length-map s.sites.items view_site)) k.sound.sites
+  usable grow short k = IsUsablePast-sound rules grow s.made.items s.first s.few s.small short k.sound.past
+      (length (map view_site s.sites.items)) (omega (arith, s.most, length-map s.sites.items view_site)) k.sound.sites
 
   -- before a site takes an operation each site can
-  pub can-take : GrowByOne → ((l : List ℕ) → IsClosed past l → length l ≤ length s.made.items) → (IsSoundPast rules past s.first → IsOrderly past)
+  pub can-take : GrowByOne → ((l : List ℕ) → IsClosed past l → length l ≤ length s.made.items)
+      → (IsSoundPast rules past s.first → IsOrderly past)
       → s.is_open ≡ true → ∥ AllByRecursion (CanTake rules past) s.sites.items ∥₁
   can-take grow short orderly opened = ∥∥₁_map₂ s.kept (s.forms opened) (λ k forms.
       CanTake-kept rules s.first s.made.items s.sites.items (orderly k.sound.past) (usable grow short k) k forms)
@@ -56,7 +60,8 @@ module _ (s : Session) where
     -- and has counted no more than the session
     pub counted-before : s.is_open ≡ true
         → IfSome (slice_get s.sites.items (t - 1)) (λ site. length (counted past (reverse site.seen.items)) ≤ s.counted)
-    counted-before opened = IfSome-from (λ site. length (counted past (reverse site.seen.items)) ≤ s.counted) (slice_get s.sites.items (t - 1))
+    counted-before opened = IfSome-from (λ site. length (counted past (reverse site.seen.items)) ≤ s.counted)
+        (slice_get s.sites.items (t - 1))
         (λ site is. subst (λ (m : ℕ). length (counted past (reverse site.seen.items)) ≤ m) (sym (s.counts opened))
         (counted-most s.first s.made.items s.sites.items t site at is))
 
@@ -64,8 +69,10 @@ module _ (s : Session) where
         (made_is : made ≡ s.made.items) (sites_is : sites ≡ s.sites.items)
         (takes : TakesAtPlace rules (past_of made) (t - 1) n sites new_sites s.counted total answer) where
       step : TakesAtPlace rules past (t - 1) n s.sites.items new_sites s.counted total answer
-      step = subst (λ (ms : List Made). TakesAtPlace rules (past_of ms) (t - 1) n s.sites.items new_sites s.counted total answer) made_is
-          (subst (λ (ss : List Site). TakesAtPlace rules (past_of made) (t - 1) n ss new_sites s.counted total answer) sites_is takes)
+      step = subst (λ (ms : List Made). TakesAtPlace rules (past_of ms) (t - 1) n s.sites.items new_sites
+          s.counted total answer) made_is
+          (subst (λ (ss : List Site). TakesAtPlace rules (past_of made) (t - 1) n ss new_sites s.counted total answer)
+          sites_is takes)
 
       same_length : length new_sites ≡ length s.sites.items
       same_length = length-taken rules s.first s.made.items s.sites.items new_sites t at n s.counted total answer step
@@ -91,25 +98,40 @@ module _ (s : Session) where
           t n answer
       taken is_open fine inside = subst (λ (ss : List Site). HasTaken (view_of s) (after ss) t n answer) (sym items)
           (HasTaken-at (view_of s) (after new_sites) t n answer
-          (TakesAt-taken rules s.first s.made.items s.sites.items new_sites t at n s.counted total answer step s.is_open is_open fine inside))
+          (TakesAt-taken rules s.first s.made.items s.sites.items new_sites t at n s.counted total answer step
+          s.is_open is_open fine inside))
         where
           after : List Site → View
-          after ss = record { function = rules; first = s.first; made = s.made.items; sites = map view_site ss; counted = total; is_open = is_open }
+          after ss = record {
+            function = rules;
+            first = s.first;
+            made = s.made.items;
+            sites = map view_site ss;
+            counted = total;
+            is_open = is_open;
+          }
 
       -- what the sites need to take more they have where the operation was taken
-      pub forms-taken : (is_open : Bool) → is_open ≡ is_ok answer → OnOk answer (∥ AllByRecursion (CanTake rules (past_of made)) new_sites ∥₁) → is_open ≡ true
+      pub forms-taken : (is_open : Bool) → is_open ≡ is_ok answer
+          → OnOk answer (∥ AllByRecursion (CanTake rules (past_of made)) new_sites ∥₁) → is_open ≡ true
           → ∥ AllByRecursion (SiteKeepsForms rules past) new_sites ∥₁
-      forms-taken is_open fine can is = ∥∥₁_map (OnOk-fine (∥ AllByRecursion (CanTake rules past) new_sites ∥₁) answer (sym fine ∙ is)
-          (subst (λ (ms : List Made). OnOk answer (∥ AllByRecursion (CanTake rules (past_of ms)) new_sites ∥₁)) made_is can))
+      forms-taken is_open fine can is =
+          ∥∥₁_map (OnOk-fine (∥ AllByRecursion (CanTake rules past) new_sites ∥₁) answer (sym fine ∙ is)
+          (subst (λ (ms : List Made). OnOk answer (∥ AllByRecursion (CanTake rules (past_of ms)) new_sites ∥₁)) made_is
+          can))
           (λ all. forms-can rules past new_sites all)
 
-      module _ (sound_law : (old new : SessionData) (u o : ℕ) → IsSound rules old → Integrates rules old new u o → IsSound rules new)
+      module _ (sound_law : (old new : SessionData) (u o : ℕ) → IsSound rules old
+          → Integrates rules old new u o → IsSound rules new)
           (count_law : (old new : SessionData) (u o : ℕ) → IsSound rules old → Integrates rules old new u o
-          → all_counted new + length (counted old.past (old.seen u)) ≡ all_counted old + length (counted new.past (new.seen u))) where
+          → all_counted new + length (counted old.past (old.seen u))
+          ≡ all_counted old + length (counted new.past (new.seen u))) where
         -- what is kept in a session is kept
-        pub kept-taken : ∥ AllByRecursion (IsSorted (length made)) new_sites ∥₁ → ∥ IsKeptSession rules s.first s.made.items new_sites ∥₁
+        pub kept-taken : ∥ AllByRecursion (IsSorted (length made)) new_sites ∥₁
+            → ∥ IsKeptSession rules s.first s.made.items new_sites ∥₁
         kept-taken sorted = ∥∥₁_map₂ s.kept sorted (λ k all. record {
-          sound = sound-taken rules s.first s.made.items s.sites.items new_sites t at n s.counted total answer step sound_law count_law k.sound;
+          sound = sound-taken rules s.first s.made.items s.sites.items new_sites t at n s.counted total answer step
+              sound_law count_law k.sound;
           sorted = subst (λ (ms : List Made). AllByRecursion (IsSorted (length ms)) new_sites) made_is all;
         })
 
@@ -117,27 +139,31 @@ module _ (s : Session) where
         pub counts-taken : (is_open : Bool) → is_open ≡ is_ok answer → s.is_open ≡ true → is_open ≡ true
             → total ≡ all_counted (data_of s.first s.made.items (map view_site new_sites))
         counts-taken is_open fine was is = ∥∥₁_elim s.kept (Coded-set coded_ℕ _ _) (λ k.
-            all-counted-open rules s.first s.made.items s.sites.items new_sites t at n s.counted total answer step sound_law count_law k.sound
-            (sym fine ∙ is) (s.counts was))
+            all-counted-open rules s.first s.made.items s.sites.items new_sites t at n s.counted total answer step
+            sound_law count_law k.sound (sym fine ∙ is) (s.counts was))
 
         -- no operation is stuck where sites converge
         pub never-stuck : ((session : SessionData) → IsSound rules session → Converges rules session)
-            → ((cells : ℕ) (p : Op) → IsEnabled p cells → is_enabled p cells ≡ true) → (o : ℕ) → answer ≡ Err (Stuck o) → ⊥
+            → ((cells : ℕ) (p : Op) → IsEnabled p cells → is_enabled p cells ≡ true) → (o : ℕ)
+            → answer ≡ Err (Stuck o) → ⊥
         never-stuck converges tested o is = ∥∥₁_elim s.kept (hlevel) (λ k.
-            never-stuck-taken rules s.first s.made.items s.sites.items new_sites t at n s.counted total answer step sound_law count_law k.sound
-            converges tested o is)
+            never-stuck-taken rules s.first s.made.items s.sites.items new_sites t at n s.counted total answer step
+            sound_law count_law k.sound converges tested o is)
 
         -- and the count is not spent where the most forms that the sites can count are allowed
         pub never-spent : ((session : SessionData) (u : ℕ) → IsSound rules session → IsSite session.sites u
             → length (counted session.past (session.seen u)) ≤ most_forms session.past session.sites)
-            → ((session : SessionData) (u o : ℕ) (names more : List FormName) → IsSound rules session → IsSite session.sites u
+            → ((session : SessionData) (u o : ℕ) (names more : List FormName)
+            → IsSound rules session → IsSite session.sites u
             → IsNext session.past (session.seen u) o → sought session.past o (session.seen u) ≡ names ++ more
-            → length (count_sought (counted session.past (session.seen u)) names) ≤ most_forms session.past session.sites)
+            → length (count_sought (counted session.past (session.seen u)) names)
+            ≤ most_forms session.past session.sites)
             → n < length s.made.items → s.is_open ≡ true
-            → length (map view_site s.sites.items) * most_forms past (length (map view_site s.sites.items)) ≤ MAX_FORMS → answer ≡ Err Spent → ⊥
+            → length (map view_site s.sites.items) * most_forms past (length (map view_site s.sites.items)) ≤ MAX_FORMS
+            → answer ≡ Err Spent → ⊥
         never-spent whole within inside opened enough is = ∥∥₁_elim s.kept (hlevel) (λ k.
-            never-spent-taken rules s.first s.made.items s.sites.items new_sites t at n s.counted total answer step sound_law count_law k.sound
-            whole within inside k.sorted (s.counts opened) enough is)
+            never-spent-taken rules s.first s.made.items s.sites.items new_sites t at n s.counted total answer step
+            sound_law count_law k.sound whole within inside k.sorted (s.counts opened) enough is)
 
 -- what is refused before it is taken is not stuck, and nothing is spent for it
 pub no_site-not_stuck : (o : ℕ) → ◌≢◌ {A = Result Took Take} (Err NoSite) (Err (Stuck o))

@@ -87,7 +87,9 @@ module _ (old new : View) (t : ℕ) (o : Op) where
 
   -- what passed every test is made, or wanted memory
   pub executed-answers :
-      (answer : Result ℕ Make) → May → length old.made < MAX_MADE → IfErr answer (λ e. (e ≡ NoMemory) × (new ≡ closed_session old))
+      (answer : Result ℕ Make) → May → length old.made < MAX_MADE
+      → IfErr answer (λ e. (e ≡ NoMemory) × (new ≡ closed_session old))
       → Answers answer
   executed-answers (Ok number) may few lacked = made-answers number may
-  executed-answers (Err e) may few lacked = subst (λ (x : Make). Answers (Err x)) (sym lacked.0) (no_memory-answers may few lacked.1)
+  executed-answers (Err e) may few lacked =
+      subst (λ (x : Make). Answers (Err x)) (sym lacked.0) (no_memory-answers may few lacked.1)

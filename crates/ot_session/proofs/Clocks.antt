@@ -1,6 +1,6 @@
 -- Lists without a member, and how many operations of each site are in a list.
-use Rattle.std.proofs.Common.{◌≡◌, ◌≢◌, ◌<◌, ◌≤◌, ◌+◌, ◌-◌, ℕ, true, false, not, filter, List, [], ◌∷◌, length, map, refl, sym, ap, ◌∙◌, subst, inl, inr, arith}
-use Rattle.std.proofs.Common.{get_or}
+use Rattle.std.proofs.Common.{◌≡◌, ◌≢◌, ◌<◌, ◌≤◌, ◌+◌, ◌-◌, ℕ, true, false, not, filter, List, [], ◌∷◌, length, map}
+use Rattle.std.proofs.Common.{refl, sym, ap, ◌∙◌, subst, inl, inr, arith, get_or}
 use Rattle.std.specs.Prelude.{nat_eq, slice_set}
 use Rattle.std.specs.List.{range_with_len}
 use Rattle.std.proofs.Common.{get_or-set_other}
@@ -26,7 +26,8 @@ filter-other x (y ∷ l) other = elim (cases_eq x y) [
 ]
 
 -- the members other than one are the list without it
-pub filter-without : (past : Past) (x : ℕ) (l : List ℕ) → IsClosed past l → filter (λ y. not (nat_eq y x)) l ≡ without x l
+pub filter-without : (past : Past) (x : ℕ) (l : List ℕ) → IsClosed past l
+    → filter (λ y. not (nat_eq y x)) l ≡ without x l
 filter-without past x [] closed = refl
 filter-without past x (y ∷ l) closed = elim (cases_eq x y) [
   | inl same ↦ rw (eq-eqb x y same, eq-eqb y x (sym same))
@@ -40,10 +41,13 @@ pub set-map_range : (h g : ℕ → ℕ) (a n i v : ℕ) → i < n → g (a + i) 
     → slice_set (map h (range_with_len a n)) i v ≡ map g (range_with_len a n)
 set-map_range h g a n i v inside here others =
     ext_get_or 0 (slice_set (map h (range_with_len a n)) i v) (map g (range_with_len a n))
-    (length-set (map h (range_with_len a n)) i v ∙ length-map-range_with_len h a n ∙ sym (length-map-range_with_len g a n))
-    (λ j below. at j (subst (λ (m : ℕ). j < m) (length-set (map h (range_with_len a n)) i v ∙ length-map-range_with_len h a n) below))
+    (length-set (map h (range_with_len a n)) i v ∙ length-map-range_with_len h a n
+    ∙ sym (length-map-range_with_len g a n))
+    (λ j below. at j (subst (λ (m : ℕ). j < m) (length-set (map h (range_with_len a n)) i v
+    ∙ length-map-range_with_len h a n) below))
   where
-    at : (j : ℕ) → j < n → get_or (slice_set (map h (range_with_len a n)) i v) j 0 ≡ get_or (map g (range_with_len a n)) j 0
+    at : (j : ℕ) → j < n
+        → get_or (slice_set (map h (range_with_len a n)) i v) j 0 ≡ get_or (map g (range_with_len a n)) j 0
     at j below = elim (cases_eq j i) [
       | inl same ↦
           let within : i < length (map h (range_with_len a n)) = rw (length-map-range_with_len h a n) inside in
@@ -57,16 +61,20 @@ set-map_range h g a n i v inside here others =
     ]
 
 -- a site's count in a clock
-pub get_or-clock : (past : Past) (l : List ℕ) (t : ℕ) → 1 ≤ t → t ≤ MAX_SITES → get_or (clock past l) (t - 1) 0 ≡ from_site past t l
+pub get_or-clock : (past : Past) (l : List ℕ) (t : ℕ) → 1 ≤ t → t ≤ MAX_SITES
+    → get_or (clock past l) (t - 1) 0 ≡ from_site past t l
 get_or-clock past l t low high =
-    get_or-map-range_with_len (λ s. from_site past s l) 1 MAX_SITES (t - 1) t 0 (omega (arith, low, high)) (omega (arith, low))
+    get_or-map-range_with_len (λ s. from_site past s l) 1 MAX_SITES (t - 1) t 0
+    (omega (arith, low, high)) (omega (arith, low))
 
 -- the clock of a list without a member: one less of its site
 pub clock-without : (past : Past) (x : ℕ) (l : List ℕ)
-    → ((t y : ℕ) (m : List ℕ) → has m y ≡ true → maker past y ≡ t → from_site past t m ≡ from_site past t (without y m) + 1)
+    → ((t y : ℕ) (m : List ℕ) → has m y ≡ true → maker past y ≡ t
+    → from_site past t m ≡ from_site past t (without y m) + 1)
     → ((t y : ℕ) (m : List ℕ) → maker past y ≢ t → from_site past t (without y m) ≡ from_site past t m)
     → has l x ≡ true → 1 ≤ maker past x → maker past x ≤ MAX_SITES
-    → slice_set (clock past l) (maker past x - 1) (get_or (clock past l) (maker past x - 1) 0 - 1) ≡ clock past (without x l)
+    → slice_set (clock past l) (maker past x - 1) (get_or (clock past l) (maker past x - 1) 0 - 1)
+    ≡ clock past (without x l)
 clock-without past x l taken_out others member low high =
     let t : ℕ = maker past x in
     let place : 1 + (t - 1) ≡ t = omega (arith, low) in

@@ -1,6 +1,6 @@
 -- Taking an operation at a site, as steps of what the definitions of sessions speak of.
-use Rattle.std.proofs.Common.{◌≡◌, ◌≢◌, ◌<◌, ◌+◌, ◌-◌, ◌∷◌, [], ℕ, zero, suc, Bool, true, List, length, Some, None, Result, Ok, Err, refl, sym, ap, ◌∙◌, subst}
-use Rattle.std.proofs.Common.{inl, inr, arith}
+use Rattle.std.proofs.Common.{◌≡◌, ◌≢◌, ◌<◌, ◌+◌, ◌-◌, ◌∷◌, [], ℕ, zero, suc, Bool, true, List, length, Some, None}
+use Rattle.std.proofs.Common.{Result, Ok, Err, refl, sym, ap, ◌∙◌, subst, inl, inr, arith}
 use Rattle.std.specs.Prelude.{slice_get, slice_set}
 use Rattle.std.proofs.lemmas.Bool.{cases_eq}
 use Rattle.std.proofs.lemmas.List.{length-set}
@@ -29,7 +29,8 @@ slice_set-same [] i x is = refl
 slice_set-same (y ∷ xs) zero x is = let same : y ≡ x = cc in ap (λ z. z ∷ xs) (sym same)
 slice_set-same (y ∷ xs) (suc i) x is = ap (λ rest. y ∷ rest) (slice_set-same xs i x is)
 
-module _ (f : Function) (first : List Cell) (made : List Made) (sites : List SiteView) (t : ℕ) (site : IsSite (length sites) t) where
+module _ (f : Function) (first : List Cell) (made : List Made) (sites : List SiteView) (t : ℕ)
+    (site : IsSite (length sites) t) where
   -- the session with another site in place of this one
   abbrev pub with : SiteView → SessionData
   with v = data_of first made (slice_set sites (t - 1) v)
@@ -51,21 +52,25 @@ module _ (f : Function) (first : List Cell) (made : List Made) (sites : List Sit
   pub site_with : (v : SiteView) → IsSite (length (slice_set sites (t - 1) v)) t
   site_with v = record { low = site.low; high = omega (arith, site.high, length-set sites (t - 1) v) }
 
-  as_with : (v w : SiteView) (u : ℕ) → IsSite (length (slice_set sites (t - 1) v)) u → IsSite (length (slice_set sites (t - 1) w)) u
+  as_with : (v w : SiteView) (u : ℕ) → IsSite (length (slice_set sites (t - 1) v)) u
+      → IsSite (length (slice_set sites (t - 1) w)) u
   as_with v w u is_site = record {
     low = is_site.low;
     high = omega (arith, is_site.high, length-set sites (t - 1) v, length-set sites (t - 1) w);
   }
 
   -- integrating is a step of the session
-  IntegratesSoFar-with : (v w : SiteStanding) (o : ℕ) → HasIntegrated f (past_of made) o v w → Integrates f (with v.site) (with w.site) t o
+  IntegratesSoFar-with : (v w : SiteStanding) (o : ℕ) → HasIntegrated f (past_of made) o v w
+      → Integrates f (with v.site) (with w.site) t o
   IntegratesSoFar-with v w o step = record {
     keeps = record {
       first = refl;
       sites = length-set sites (t - 1) w.site ∙ sym (length-set sites (t - 1) v.site);
-      seen = λ u is_site differ. ap seen_in (other_with w.site u (as_with v.site w.site u is_site) differ ∙ sym (other_with v.site u is_site differ));
+      seen = λ u is_site differ. ap seen_in (other_with w.site u (as_with v.site w.site u is_site) differ
+          ∙ sym (other_with v.site u is_site differ));
       documents = λ u is_site differ.
-          ap site_document (other_with w.site u (as_with v.site w.site u is_site) differ ∙ sym (other_with v.site u is_site differ));
+          ap site_document (other_with w.site u (as_with v.site w.site u is_site) differ
+          ∙ sym (other_with v.site u is_site differ));
     };
     extends = record { more = omega arith; operations = λ _ _. refl; befores = λ _ _ _. refl };
     count = refl;
@@ -82,9 +87,11 @@ module _ (f : Function) (first : List Cell) (made : List Made) (sites : List Sit
 
   module _ (sound_law : (old new : SessionData) (s o : ℕ) → IsSound f old → Integrates f old new s o → IsSound f new)
       (count_law : (old new : SessionData) (s o : ℕ) → IsSound f old → Integrates f old new s o
-      → all_counted new + length (counted old.past (old.seen s)) ≡ all_counted old + length (counted new.past (new.seen s))) where
+      → all_counted new + length (counted old.past (old.seen s))
+      ≡ all_counted old + length (counted new.past (new.seen s))) where
     -- a course from a sound session keeps it sound, and its count grows by what was counted
-    pub Follows-course : (n : ℕ) (v : SiteStanding) (done : List ℕ) (w : SiteStanding) → IsSound f (with v.site) → IsCourse f (past_of made) n v done w
+    pub Follows-course : (n : ℕ) (v : SiteStanding) (done : List ℕ) (w : SiteStanding) → IsSound f (with v.site)
+        → IsCourse f (past_of made) n v done w
         → Follows v w
     Follows-course n v _ _ sound start = record { sound = sound; counts = refl }
     Follows-course n v _ _ sound (then done mid new o course turn step) =
@@ -120,7 +127,8 @@ module _ (f : Function) (first : List Cell) (made : List Made) (sites : List Sit
               ∙ sym (slice_get-set_other sites (t - 1) (u - 1) v differ))
         ]
 
-        document_same : (u : ℕ) → site_document (slice_get (slice_set sites (t - 1) (record v { held = marks })) (u - 1))
+        document_same : (u : ℕ)
+            → site_document (slice_get (slice_set sites (t - 1) (record v { held = marks })) (u - 1))
             ≡ site_document (slice_get (slice_set sites (t - 1) v) (u - 1))
         document_same u = elim (cases_eq (u - 1) (t - 1)) [
           | inl same ↦ rw same (document_with (record v { held = marks }) ∙ sym (document_with v))
@@ -139,18 +147,23 @@ module _ (f : Function) (first : List Cell) (made : List Made) (sites : List Sit
     IsSound-taken n old new (Ok Held) sound takes =
         subst (λ (s : SiteStanding). IsSound f (with s.site)) (sym takes.is)
         (subst (λ (s : SessionData). IsSound f s) (sym (with-held old.site (slice_set old.site.held n true))) sound)
-    IsSound-taken n old new (Ok (Done done)) sound takes = (Follows-course n old done new sound takes.integrates.course).sound
+    IsSound-taken n old new (Ok (Done done)) sound takes =
+        (Follows-course n old done new sound takes.integrates.course).sound
     IsSound-taken n old new (Err (Stuck o)) sound takes =
-        sound-same takes.mid.site new.site takes.site (Follows-course n old takes.done takes.mid sound takes.integrates.course).sound
+        sound-same takes.mid.site new.site takes.site
+        (Follows-course n old takes.done takes.mid sound takes.integrates.course).sound
     IsSound-taken n old new (Err Spent) sound takes =
-        sound-same takes.mid.site new.site takes.site (Follows-course n old takes.done takes.mid sound takes.integrates.course).sound
+        sound-same takes.mid.site new.site takes.site
+        (Follows-course n old takes.done takes.mid sound takes.integrates.course).sound
     IsSound-taken n old new (Err NoMemory) sound takes =
-        sound-same takes.mid.site new.site takes.site (Follows-course n old takes.done takes.mid sound takes.integrates.course).sound
+        sound-same takes.mid.site new.site takes.site
+        (Follows-course n old takes.done takes.mid sound takes.integrates.course).sound
     IsSound-taken n old new (Err NoSite) sound takes = absurd takes
     IsSound-taken n old new (Err NoOp) sound takes = absurd takes
 
     -- and what was counted is what its sites count
-    pub counts-taken : (n : ℕ) (old new : SiteStanding) (took : Took) → IsSound f (with old.site) → all_counted (with old.site) ≡ old.counted
+    pub counts-taken : (n : ℕ) (old new : SiteStanding) (took : Took) → IsSound f (with old.site)
+        → all_counted (with old.site) ≡ old.counted
         → Takes f (past_of made) n old new (Ok took) → all_counted (with new.site) ≡ new.counted
     counts-taken n old new Repeat sound all takes =
         subst (λ (s : SiteStanding). all_counted (with s.site) ≡ s.counted) (sym takes.same) all
@@ -163,17 +176,22 @@ module _ (f : Function) (first : List Cell) (made : List Made) (sites : List Sit
     -- where the sites converge, no operation is stuck
     pub never-stuck : ((session : SessionData) → IsSound f session → Converges f session)
         → ((n : ℕ) (p : Op) → IsEnabled p n → is_enabled p n ≡ true)
-        → (n o : ℕ) (old new : SiteStanding) → IsSound f (with old.site) → ¬ (Takes f (past_of made) n old new (Err (Stuck o)))
+        → (n o : ℕ) (old new : SiteStanding) → IsSound f (with old.site)
+        → ¬ (Takes f (past_of made) n old new (Err (Stuck o)))
     never-stuck converges tested n o old new sound takes =
         let mid : SiteView = takes.mid.site in
-        let all : Converges f (with mid) = converges (with mid) (Follows-course n old takes.done takes.mid sound takes.integrates.course).sound in
-        let there = all.never_stuck t o (site_with mid) (subst (λ (l : List ℕ). IsNext (past_of made) l o) (sym (seen_with mid)) takes.stuck.next) in
+        let all : Converges f (with mid) =
+        converges (with mid) (Follows-course n old takes.done takes.mid sound takes.integrates.course).sound in
+        let there = all.never_stuck t o (site_with mid)
+        (subst (λ (l : List ℕ). IsNext (past_of made) l o) (sym (seen_with mid)) takes.stuck.next) in
         let p : Op = there.there in
         let is : form f (past_of made) o mid.seen ≡ Some p =
         ap (λ (l : List ℕ). form f (past_of made) o l) (sym (seen_with mid)) ∙ there.is in
         let enabled : is_enabled p (length mid.document) ≡ true =
-        tested (length mid.document) p (subst (λ (d : List Cell). IsEnabled p (length d)) (document_with mid) there.enabled) in
-        let some : executed f (form f (past_of made) o mid.seen) mid.document ≡ Some (document_after f.head.mode p mid.document) =
+        tested (length mid.document) p
+        (subst (λ (d : List Cell). IsEnabled p (length d)) (document_with mid) there.enabled) in
+        let some : executed f (form f (past_of made) o mid.seen) mid.document
+        ≡ Some (document_after f.head.mode p mid.document) =
         rw (is, enabled) refl in
         let both : None ≡ Some (document_after f.head.mode p mid.document) = sym takes.stuck.document ∙ some in
         cc

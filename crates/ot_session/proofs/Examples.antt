@@ -16,7 +16,8 @@ module _ (f : Function) (past : Past) where
   one_form_too_many = refl
 
   -- a form that was counted, behind its list in another order, is not counted again
-  a_form_that_was_counted : first_obstacle f past 500000 (name_of 2 (0 ∷ 1 ∷ []) ∷ []) (name_of 2 (1 ∷ 0 ∷ []) ∷ []) ≡ None
+  a_form_that_was_counted : first_obstacle f past 500000 (name_of 2 (0 ∷ 1 ∷ []) ∷ [])
+      (name_of 2 (1 ∷ 0 ∷ []) ∷ []) ≡ None
   a_form_that_was_counted = refl
 
   -- a form that does not exist is counted, and none behind it

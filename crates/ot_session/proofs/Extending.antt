@@ -21,7 +21,8 @@ use Rattle.ot_session.proofs.Tables.{map-same}
 filter-same : (p q : ℕ → Bool) (l : List ℕ) → ((x : ℕ) → has l x ≡ true → p x ≡ q x) → filter p l ≡ filter q l
 filter-same p q [] same = refl
 filter-same p q (x ∷ l) same = rw (same x (has-itself x l))
-    (ap (λ (rest : List ℕ). cond (q x) (x ∷ rest) rest) (filter-same p q l (λ y member. same y (has-older x l y member))))
+    (ap (λ (rest : List ℕ). cond (q x) (x ∷ rest) rest)
+    (filter-same p q l (λ y member. same y (has-older x l y member))))
 
 module _ (f : Function) (old new : Past) (extends : Extends old new)
     (made_law : (l : List ℕ) → IsClosed old l → AreMade old l)
@@ -51,7 +52,8 @@ module _ (f : Function) (old new : Past) (extends : Extends old new)
           sublist = sublist all.0.list all.0.sought.sublist;
         };
         counts = all.0.counts ∙ clock-extended all.0.list all.0.sought.ready.1;
-        is = forms_law e.0.number all.0.list all.0.sought.ready.0.made (made_law all.0.list all.0.sought.ready.1) ∙ all.0.is;
+        is = forms_law e.0.number all.0.list all.0.sought.ready.0.made (made_law all.0.list all.0.sought.ready.1)
+            ∙ all.0.is;
         counted = all.0.counted;
       },
       entries-extended names es all.1,

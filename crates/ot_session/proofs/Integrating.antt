@@ -1,6 +1,6 @@
 -- A site at which an operation was integrated.
-use Rattle.std.proofs.Common.{◌≡◌, ◌≢◌, ◌<◌, ◌≤◌, ◌+◌, ◌-◌, ◌++◌, ◌∷◌, [], ℕ, Bool, true, false, List, length, Option, Some, None, Result, Ok, Err, refl, sym}
-use Rattle.std.proofs.Common.{ap, ◌∙◌, subst, inl, inr, arith, reverse}
+use Rattle.std.proofs.Common.{◌≡◌, ◌≢◌, ◌<◌, ◌≤◌, ◌+◌, ◌-◌, ◌++◌, ◌∷◌, [], ℕ, Bool, true, false, List, length, Option}
+use Rattle.std.proofs.Common.{Some, None, Result, Ok, Err, refl, sym, ap, ◌∙◌, subst, inl, inr, arith, reverse}
 use Rattle.std.specs.Prelude.{nat_eq, slice_set, IsErrAnd}
 use Rattle.std.specs.List.{AllByRecursion}
 use Rattle.std.proofs.Math.Logic.{∥∥₁_map, ∥∥₁_map₂}
@@ -23,7 +23,8 @@ use Rattle.ot_session.specs.Past.{is_marked}
 use Rattle.ot_session.specs.declared.form.FormError.{FormError}
 use Rattle.ot_session.specs.declared.form.FormError.TheVariants.{NoForm, Spent, NoMemory}
 use Rattle.ot_session.specs.Entries.{IsFormEntry, HasForms, IsTable, MaySeek, Seeks, HasSought}
-use Rattle.ot_session.specs.Seeking.{Obstacle, Missing, Exhausted, first_obstacle, IsCountSpent, uncounted, count_at, count_behind}
+use Rattle.ot_session.specs.Seeking.{Obstacle, Missing, Exhausted, first_obstacle, IsCountSpent, uncounted, count_at}
+use Rattle.ot_session.specs.Seeking.{count_behind}
 use Rattle.ot_session.specs.Sites.{IsMarked, IsApart, CanTake, Executes}
 use Rattle.ot_session.specs.Taking.{standing, HasIntegrated, IsStuck}
 use Rattle.ot_session.proofs.Marks.{marked-set}
@@ -46,7 +47,8 @@ module _ (f : Function) (past : Past) (seen : List ℕ) (n : ℕ) where
   )
 
   -- the forms of a site are those of the site when it has integrated more
-  pub HasForms-longer : (names : List FormName) (es : List (Key × Op)) → (AreCounted past seen names → AreCounted past (n ∷ seen) names)
+  pub HasForms-longer : (names : List FormName) (es : List (Key × Op))
+      → (AreCounted past seen names → AreCounted past (n ∷ seen) names)
       → HasForms f past seen names es → HasForms f past (n ∷ seen) names es
   HasForms-longer names es longer has = record {
     counted = longer has.counted;
@@ -62,10 +64,12 @@ module _ (f : Function) (past : Past) (seen : List ℕ) (n : ℕ) where
       subst (λ (m : ℕ). first_obstacle f past m (counted past seen) (sought past n seen) ≡ found) (sym same) is
 
   -- nothing in the way: the count is not spent
-  unspent-none : (total : ℕ) → first_obstacle f past total (counted past seen) (sought past n seen) ≡ None → ¬ (IsCountSpent f past total seen n)
+  unspent-none : (total : ℕ) → first_obstacle f past total (counted past seen) (sought past n seen) ≡ None
+      → ¬ (IsCountSpent f past total seen n)
   unspent-none total none spent = let two : None ≡ Some Exhausted = sym none ∙ spent in cc
 
-  unspent-missing : (total more : ℕ) → first_obstacle f past total (counted past seen) (sought past n seen) ≡ Some (Missing more)
+  unspent-missing : (total more : ℕ)
+      → first_obstacle f past total (counted past seen) (sought past n seen) ≡ Some (Missing more)
       → ¬ (IsCountSpent f past total seen n)
   unspent-missing total more missing spent = let two : Some (Missing more) ≡ Some Exhausted = sym missing ∙ spent in cc
 
@@ -77,7 +81,8 @@ pub record Changes (f : Function) (n : ℕ) (p : Op) (table : List (Key × Op)) 
   pub held : new.held ≡ slice_set old.held n false
   pub stored : new.table ≡ table
 
-pub Changes-executed : (f : Function) (n : ℕ) (p : Op) (head : Head) (table : List (Key × Op)) (old after : Site) (marks : List Bool)
+pub Changes-executed : (f : Function) (n : ℕ) (p : Op) (head : Head) (table : List (Key × Op))
+    (old after : Site) (marks : List Bool)
     → Executes head.mode n p (record old { table = table }) after → head ≡ f.head → marks ≡ slice_set after.held n false
     → Changes f n p table old (record after { held = marks })
 Changes-executed f n p head table old after marks executes same held = record {
@@ -88,7 +93,8 @@ Changes-executed f n p head table old after marks executes same held = record {
   stored = executes.table;
 }
 
-module _ (f : Function) (past : Past) (n : ℕ) (p : Op) (table : List (Key × Op)) (old new : Site) (change : Changes f n p table old new)
+module _ (f : Function) (past : Past) (n : ℕ) (p : Op) (table : List (Key × Op)) (old new : Site)
+    (change : Changes f n p table old new)
     (next : IsNext past (reverse old.seen.items) n)
     (counted_next : (o : ℕ) (l : List ℕ) → counted past (o ∷ l) ≡ count_sought (counted past l) (sought past o l)) where
   seen_now : reverse new.seen.items ≡ n ∷ reverse old.seen.items
@@ -96,7 +102,8 @@ module _ (f : Function) (past : Past) (n : ℕ) (p : Op) (table : List (Key × O
 
   -- the site has integrated the operation, and the count grew by the forms that were sought
   HasIntegrated-changed : (others total more : ℕ) → total ≡ others + length (counted past (reverse old.seen.items))
-      → Seeks f past (reverse old.seen.items) (counted past (reverse old.seen.items)) others n (reverse old.seen.items) table more
+      → Seeks f past (reverse old.seen.items) (counted past (reverse old.seen.items)) others n
+      (reverse old.seen.items) table more
       → form f past n (reverse old.seen.items) ≡ Some p → is_enabled p (length old.doc) ≡ true
       → HasIntegrated f past n (standing old total) (standing new more)
   HasIntegrated-changed others total more same seeks is enabled = record {
@@ -125,28 +132,35 @@ module _ (f : Function) (past : Past) (n : ℕ) (p : Op) (table : List (Key × O
     other = λ x is. elim (cases_eq x n) [
       | inl same ↦ absurd (false≢true (sym (here x same) ∙ is))
       | inr differ ↦ ap (λ (l : List ℕ). has l x) seen_now
-          ∙ or_from (nat_eq x n) (has (reverse old.seen.items) x) (ne_eqb x n differ) (apart.other x (sym (other x differ) ∙ is))
+          ∙ or_from (nat_eq x n) (has (reverse old.seen.items) x) (ne_eqb x n differ)
+          (apart.other x (sym (other x differ) ∙ is))
     ];
   }
     where
       here : (x : ℕ) → x ≡ n → is_marked new.held x ≡ false
-      here x same = ap (λ (marks : List Bool). is_marked marks x) change.held ∙ get_or-set_at old.held n x false false same inside
+      here x same = ap (λ (marks : List Bool). is_marked marks x) change.held
+          ∙ get_or-set_at old.held n x false false same inside
 
       other : (x : ℕ) → x ≢ n → is_marked new.held x ≡ is_marked old.held x
-      other x differ = ap (λ (marks : List Bool). is_marked marks x) change.held ∙ get_or-set_other old.held n x false false differ
+      other x differ = ap (λ (marks : List Bool). is_marked marks x) change.held
+          ∙ get_or-set_other old.held n x false false differ
 
   marked_now : IsMarked old → n < length old.integrated → IsMarked new
   marked_now marked inside = record {
-    marks = λ x. rw (change.integrated, seen_now) (marked-set old.integrated (reverse old.seen.items) n inside marked.marks x);
-    integrated = ap (λ (marks : List Bool). length marks) change.integrated ∙ length-set old.integrated n true ∙ marked.integrated;
+    marks = λ x. rw (change.integrated, seen_now)
+        (marked-set old.integrated (reverse old.seen.items) n inside marked.marks x);
+    integrated = ap (λ (marks : List Bool). length marks) change.integrated
+        ∙ length-set old.integrated n true ∙ marked.integrated;
     held = ap (λ (marks : List Bool). length marks) change.held ∙ length-set old.held n false ∙ marked.held;
   }
 
   -- the site can take more
   CanTake-changed : past.count ≤ MAX_MADE
-      → ((names : List FormName) → AreCounted past (reverse old.seen.items) names → AreCounted past (n ∷ reverse old.seen.items) names)
+      → ((names : List FormName) → AreCounted past (reverse old.seen.items) names
+      → AreCounted past (n ∷ reverse old.seen.items) names)
       → CanTake f past old
-      → HasForms f past (reverse old.seen.items) (count_sought (counted past (reverse old.seen.items)) (sought past n (reverse old.seen.items))) table
+      → HasForms f past (reverse old.seen.items)
+      (count_sought (counted past (reverse old.seen.items)) (sought past n (reverse old.seen.items))) table
       → CanTake f past new
   CanTake-changed few longer can forms = record {
     orderly = can.orderly;
@@ -160,12 +174,14 @@ module _ (f : Function) (past : Past) (n : ℕ) (p : Op) (table : List (Key × O
       has = rw (seen_now, counted_next n (reverse old.seen.items), change.stored)
           (HasForms-longer f past (reverse old.seen.items) n
           (count_sought (counted past (reverse old.seen.items)) (sought past n (reverse old.seen.items))) table
-          (longer (count_sought (counted past (reverse old.seen.items)) (sought past n (reverse old.seen.items)))) forms);
+          (longer (count_sought (counted past (reverse old.seen.items)) (sought past n (reverse old.seen.items))))
+          forms);
     };
   }
 
 -- the form of what is next can be sought
-pub MaySeek-next : (f : Function) (past : Past) (site : Site) (n : ℕ) → ((l : List ℕ) → IsSublist l l) → CanTake f past site
+pub MaySeek-next : (f : Function) (past : Past) (site : Site) (n : ℕ)
+    → ((l : List ℕ) → IsSublist l l) → CanTake f past site
     → IsNext past (reverse site.seen.items) n → MaySeek f past (reverse site.seen.items) n (reverse site.seen.items)
 MaySeek-next f past site n whole can next = record {
   orderly = can.orderly;
@@ -175,7 +191,8 @@ MaySeek-next f past site n whole can next = record {
 }
 
 -- the table of a site, where so many forms were counted in all
-pub IsTable-kept : (f : Function) (past : Past) (site : Site) (total : ℕ) → length (counted past (reverse site.seen.items)) ≤ total
+pub IsTable-kept : (f : Function) (past : Past) (site : Site) (total : ℕ)
+    → length (counted past (reverse site.seen.items)) ≤ total
     → CanTake f past site → IsTable f past (reverse site.seen.items) site.table total
 IsTable-kept f past site total some can = record {
   names = counted past (reverse site.seen.items);
@@ -185,8 +202,10 @@ IsTable-kept f past site total some can = record {
 }
 
 -- what seeking a form answers at a site, with the lists by another name
-HasSought-at : (f : Function) (past : Past) (seen first second : List ℕ) (n total others more : ℕ) (old new : List (Key × Op)) (r : Result Op FormError)
-    → first ≡ seen → second ≡ seen → total ≡ others + length (counted past seen) → ∥ HasForms f past seen (counted past seen) old ∥₁
+HasSought-at : (f : Function) (past : Past) (seen first second : List ℕ) (n total others more : ℕ)
+    (old new : List (Key × Op)) (r : Result Op FormError)
+    → first ≡ seen → second ≡ seen → total ≡ others + length (counted past seen)
+    → ∥ HasForms f past seen (counted past seen) old ∥₁
     → ((names : List FormName) (m : ℕ) → ∥ HasForms f past first names old ∥₁ → total ≡ m + length names
     → HasSought f past first names m n second new more r)
     → HasSought f past seen (counted past seen) others n seen new more r
@@ -217,7 +236,8 @@ module _ (f : Function) (past : Past) (site : Site) (n total more : ℕ) (table 
       → HasSought f past first names m n second table more r
 
   answer : (r : Result Op FormError) → Answers r → HasSought f past seen (counted past seen) others n seen table more r
-  answer r = HasSought-at f past seen first second n total others more site.table table r first_is second_is count (∥∥₁_map can (λ k. k.forms.has))
+  answer r = HasSought-at f past seen first second n total others more site.table table r first_is second_is count
+      (∥∥₁_map can (λ k. k.forms.has))
 
   seeks : (p : Op) → Answers (Ok p) → Seeks f past seen (counted past seen) others n seen table more
   seeks p clause = answer (Ok p) clause
@@ -225,23 +245,31 @@ module _ (f : Function) (past : Past) (site : Site) (n total more : ℕ) (table 
   missing : (e : FormError) → e ≡ NoForm → Answers (Err e)
       → first_obstacle f past total (counted past seen) (sought past n seen) ≡ Some (Missing more)
   missing e is clause = first_obstacle-total f past seen n others total (Some (Missing more)) count
-      (subst (λ (x : FormError). HasSought f past seen (counted past seen) others n seen table more (Err x)) is (answer (Err e) clause))
+      (subst (λ (x : FormError). HasSought f past seen (counted past seen) others n seen table more (Err x))
+      is (answer (Err e) clause))
 
   free : (p : Op) → Answers (Ok p) → first_obstacle f past total (counted past seen) (sought past n seen) ≡ None
   free p clause = first_obstacle-total f past seen n others total None count (seeks p clause).free
 
   pub IsCountSpent-sought : (e : FormError) → e ≡ Spent → Answers (Err e) → IsCountSpent f past total seen n
   IsCountSpent-sought e is clause = first_obstacle-total f past seen n others total (Some Exhausted) count
-      (subst (λ (x : FormError). HasSought f past seen (counted past seen) others n seen table more (Err x)) is (answer (Err e) clause))
+      (subst (λ (x : FormError). HasSought f past seen (counted past seen) others n seen table more (Err x))
+      is (answer (Err e) clause))
 
   -- it is stuck where its form does not exist
-  pub IsStuck-missing : (e : FormError) → e ≡ NoForm → Answers (Err e) → form f past n second ≡ None → IsStuck f past n (standing site total)
+  pub IsStuck-missing : (e : FormError) → e ≡ NoForm → Answers (Err e) → form f past n second ≡ None
+      → IsStuck f past n (standing site total)
   IsStuck-missing e is clause none =
       let there : form f past n seen ≡ None = subst (λ (l : List ℕ). form f past n l ≡ None) second_is none in
-      record { next = next; unspent = unspent-missing f past seen n total more (missing e is clause); document = rw there refl }
+      record {
+        next = next;
+        unspent = unspent-missing f past seen n total more (missing e is clause);
+        document = rw there refl;
+      }
 
   pub count_behind-missing : (e : FormError) → e ≡ NoForm → Answers (Err e) → more ≡ count_behind f past total seen n
-  count_behind-missing e is clause = sym (ap (λ (found : Option Obstacle). count_at found total (uncounted past seen n)) (missing e is clause))
+  count_behind-missing e is clause =
+      sym (ap (λ (found : Option Obstacle). count_at found total (uncounted past seen n)) (missing e is clause))
 
   module _ (p : Op) (clause : Answers (Ok p)) (form_is : form f past n second ≡ Some p) where
     there : form f past n seen ≡ Some p
@@ -255,7 +283,8 @@ module _ (f : Function) (past : Past) (site : Site) (n total more : ℕ) (table 
       document = rw (there, refused) refl;
     }
 
-    module _ (counted_next : (o : ℕ) (l : List ℕ) → counted past (o ∷ l) ≡ count_sought (counted past l) (sought past o l)) where
+    module _ (counted_next : (o : ℕ) (l : List ℕ)
+        → counted past (o ∷ l) ≡ count_sought (counted past l) (sought past o l)) where
       -- where nothing is in the way, the new count is the one after the operation was integrated
       pub count_behind-sought : more ≡ count_behind f past total seen n
       count_behind-sought =
@@ -272,12 +301,15 @@ module _ (f : Function) (past : Past) (site : Site) (n total more : ℕ) (table 
 
       module _ (new : Site) (change : Changes f n p table site new) where
         -- otherwise it is integrated
-        pub HasIntegrated-sought : is_enabled p (length site.doc) ≡ true → HasIntegrated f past n (standing site total) (standing new more)
+        pub HasIntegrated-sought : is_enabled p (length site.doc) ≡ true
+            → HasIntegrated f past n (standing site total) (standing new more)
         HasIntegrated-sought enabled =
-            HasIntegrated-changed f past n p table site new change next counted_next others total more count (seeks p clause) there enabled
+            HasIntegrated-changed f past n p table site new change next counted_next others total more count
+            (seeks p clause) there enabled
 
         pub CanTake-sought : past.count ≤ MAX_MADE
-            → ((names : List FormName) → AreCounted past seen names → AreCounted past (n ∷ seen) names) → ∥ CanTake f past new ∥₁
+            → ((names : List FormName) → AreCounted past seen names → AreCounted past (n ∷ seen) names)
+            → ∥ CanTake f past new ∥₁
         CanTake-sought few longer = ∥∥₁_map₂ can (seeks p clause).table (λ k forms.
             CanTake-changed f past n p table site new change next counted_next few longer k forms)
 

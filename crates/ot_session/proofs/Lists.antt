@@ -1,5 +1,6 @@
 -- Lists of which each item has a fact.
-use Rattle.std.proofs.Common.{◌≡◌, ◌≢◌, ◌<◌, ◌++◌, ◌∷◌, [], ℕ, zero, suc, List, length, map, Some, refl, ap, subst, arith}
+use Rattle.std.proofs.Common.{◌≡◌, ◌≢◌, ◌<◌, ◌++◌, ◌∷◌, [], ℕ, zero, suc, List, length, map, Some, refl, ap, subst}
+use Rattle.std.proofs.Common.{arith}
 use Rattle.std.specs.Prelude.{slice_get, slice_set}
 use Rattle.std.specs.List.{AllByRecursion}
 
@@ -8,7 +9,8 @@ module _ {X : Type 0} (P : X → Type 0) where
   AllByRecursion-push [] y all one = (one, tt)
   AllByRecursion-push (x ∷ xs) y all one = (all.0, AllByRecursion-push xs y all.1 one)
 
-  pub AllByRecursion-set : (xs : List X) (i : ℕ) (y : X) → AllByRecursion P xs → P y → AllByRecursion P (slice_set xs i y)
+  pub AllByRecursion-set : (xs : List X) (i : ℕ) (y : X) → AllByRecursion P xs → P y
+      → AllByRecursion P (slice_set xs i y)
   AllByRecursion-set [] i y all one = tt
   AllByRecursion-set (x ∷ xs) zero y all one = (one, all.1)
   AllByRecursion-set (x ∷ xs) (suc i) y all one = (all.0, AllByRecursion-set xs i y all.1 one)
@@ -23,12 +25,14 @@ pub AllByRecursion-map : {X Y : Type 0} (P : X → Type 0) (Q : Y → Type 0) (v
 AllByRecursion-map P Q v keeps [] all = tt
 AllByRecursion-map P Q v keeps (x ∷ xs) all = (keeps x all.0, AllByRecursion-map P Q v keeps xs all.1)
 
-pub slice_get-set_same : {X : Type 0} (xs : List X) (i : ℕ) (y : X) → i < length xs → slice_get (slice_set xs i y) i ≡ Some y
+pub slice_get-set_same : {X : Type 0} (xs : List X) (i : ℕ) (y : X) → i < length xs
+    → slice_get (slice_set xs i y) i ≡ Some y
 slice_get-set_same [] i y inside = absurd (omega arith)
 slice_get-set_same (x ∷ xs) zero y inside = refl
 slice_get-set_same (x ∷ xs) (suc i) y inside = slice_get-set_same xs i y (omega arith)
 
-pub slice_get-set_other : {X : Type 0} (xs : List X) (i j : ℕ) (y : X) → j ≢ i → slice_get (slice_set xs i y) j ≡ slice_get xs j
+pub slice_get-set_other : {X : Type 0} (xs : List X) (i j : ℕ) (y : X) → j ≢ i
+    → slice_get (slice_set xs i y) j ≡ slice_get xs j
 slice_get-set_other [] i j y differ = refl
 slice_get-set_other (x ∷ xs) zero zero y differ = absurd (differ refl)
 slice_get-set_other (x ∷ xs) zero (suc j) y differ = refl
@@ -39,11 +43,13 @@ pub slice_get-push_same : {X : Type 0} (xs : List X) (y : X) → slice_get (xs +
 slice_get-push_same [] y = refl
 slice_get-push_same (x ∷ xs) y = slice_get-push_same xs y
 
-pub slice_get-push_other : {X : Type 0} (xs : List X) (y : X) (i : ℕ) → i < length xs → slice_get (xs ++ y ∷ []) i ≡ slice_get xs i
+pub slice_get-push_other : {X : Type 0} (xs : List X) (y : X) (i : ℕ) → i < length xs
+    → slice_get (xs ++ y ∷ []) i ≡ slice_get xs i
 slice_get-push_other [] y i inside = absurd (omega arith)
 slice_get-push_other (x ∷ xs) y zero inside = refl
 slice_get-push_other (x ∷ xs) y (suc i) inside = slice_get-push_other xs y i (omega arith)
 
-pub AllByRecursion-from : {X : Type 0} (P : X → Type 0) (xs : List X) → ((i : ℕ) (x : X) → slice_get xs i ≡ Some x → P x) → AllByRecursion P xs
+pub AllByRecursion-from : {X : Type 0} (P : X → Type 0) (xs : List X)
+    → ((i : ℕ) (x : X) → slice_get xs i ≡ Some x → P x) → AllByRecursion P xs
 AllByRecursion-from P [] each = tt
 AllByRecursion-from P (x ∷ xs) each = (each zero x refl, AllByRecursion-from P xs (λ i y is. each (suc i) y is))

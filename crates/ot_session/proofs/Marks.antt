@@ -1,5 +1,6 @@
 -- Marks of numbers.
-use Rattle.std.proofs.Common.{◌≡◌, ◌<◌, ◌∷◌, [], ◌||◌, ℕ, Bool, true, false, List, length, sym, ap, ◌∙◌, inl, inr, replicate, reverse}
+use Rattle.std.proofs.Common.{◌≡◌, ◌<◌, ◌∷◌, [], ◌||◌, ℕ, Bool, true, false, List, length, sym, ap, ◌∙◌, inl, inr}
+use Rattle.std.proofs.Common.{replicate, reverse}
 use Rattle.std.specs.Prelude.{slice_set}
 use Rattle.std.proofs.Common.{get_or-set_other}
 use Rattle.std.proofs.lemmas.Bool.{cases_lt, cases_eq, eq-eqb, ne_eqb}
@@ -25,11 +26,13 @@ pub marked-set : (marks : List Bool) (l : List ℕ) (n : ℕ) → n < length mar
     → (x : ℕ) → is_marked (slice_set marks n true) x ≡ has (n ∷ l) x
 marked-set marks l n inside marked x = elim (cases_eq x n) [
   | inl same ↦ get_or-set_at marks n x true false same inside ∙ sym (ap (λ b. b || has l x) (eq-eqb x n same))
-  | inr differ ↦ get_or-set_other marks n x true false differ ∙ marked x ∙ sym (ap (λ b. b || has l x) (ne_eqb x n differ))
+  | inr differ ↦ get_or-set_other marks n x true false differ ∙ marked x
+      ∙ sym (ap (λ b. b || has l x) (ne_eqb x n differ))
 ]
 
 -- a site at which an operation was executed has its marks
-pub IsMarked-executed : (mode : Mode) (n : ℕ) (o : Op) (old new : Site) → n < MAX_MADE → Executes mode n o old new → IsMarked old → IsMarked new
+pub IsMarked-executed : (mode : Mode) (n : ℕ) (o : Op) (old new : Site) → n < MAX_MADE → Executes mode n o old new
+    → IsMarked old → IsMarked new
 IsMarked-executed mode n o old new inside step marked = record {
   marks = λ x. rw (step.integrated, step.seen, reverse-append old.seen.items (n ∷ []))
       (marked-set old.integrated (reverse old.seen.items) n (rw marked.integrated inside) marked.marks x);

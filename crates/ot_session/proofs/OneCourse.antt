@@ -1,5 +1,5 @@
--- That a list leads to a document, and that an operation has an enabled form behind it, is no more than a fact: the list
--- tells document and form. So what a session merely proves of its past is given whole.
+-- That a list leads to a document, and that an operation has an enabled form behind it, is no more than a fact: the
+-- list tells document and form. So what a session merely proves of its past is given whole.
 use Rattle.std.proofs.Common.{◌≡◌, ℕ, List, length, Option, Some, None, refl, sym, subst, ◌∙◌}
 use Rattle.std.specs.Coded.{Coded-set}
 use Rattle.std.proofs.Props.{props}
@@ -32,7 +32,8 @@ module _ (f : Function) (past : Past) (first : List Cell) where
       by (Some d) some = record { document = d; is = some }
 
   -- an enabled form that is merely there is there: the form is computed
-  HasEnabledForm-fact : (d : List Cell) (o : ℕ) (l : List ℕ) → ∥ HasEnabledForm f past d o l ∥₁ → HasEnabledForm f past d o l
+  HasEnabledForm-fact : (d : List Cell) (o : ℕ) (l : List ℕ) → ∥ HasEnabledForm f past d o l ∥₁
+      → HasEnabledForm f past d o l
   HasEnabledForm-fact d o l has = by (form f past o l) refl
     where
       by : (p : Option Op) → form f past o l ≡ p → HasEnabledForm f past d o l

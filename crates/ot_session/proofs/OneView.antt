@@ -1,5 +1,6 @@
 -- A new session, and the session behind an operation that was made, are told by what they come of.
-use Rattle.std.proofs.Common.{◌≡◌, ◌<◌, ◌+◌, ◌-◌, ◌++◌, ◌∷◌, [], ℕ, zero, suc, Bool, false, List, length, map, refl, sym, ap, ◌∙◌, inl, inr, arith}
+use Rattle.std.proofs.Common.{◌≡◌, ◌<◌, ◌+◌, ◌-◌, ◌++◌, ◌∷◌, [], ℕ, zero, suc, Bool, false, List, length, map, refl}
+use Rattle.std.proofs.Common.{sym, ap, ◌∙◌, inl, inr, arith}
 use Rattle.std.specs.Prelude.{slice_get}
 use Rattle.std.specs.List.{AllByRecursion}
 use Rattle.std.proofs.lemmas.Bool.{cases_eq}
@@ -13,11 +14,13 @@ use Rattle.ot_session.specs.Sites.{SiteView, site_document, seen_in}
 use Rattle.ot_session.specs.Views.{View, IsFreshView, IsBegun, HasMade, data_in}
 
 -- marks of the same numbers are one, where there are as many of them
-marks-one : (one other : List Bool) → length one ≡ length other → ((x : ℕ) → is_marked one x ≡ is_marked other x) → one ≡ other
+marks-one : (one other : List Bool) → length one ≡ length other
+    → ((x : ℕ) → is_marked one x ≡ is_marked other x) → one ≡ other
 marks-one one other long same = ext_get_or false one other long (λ x inside. same x)
 
 -- sites with the same documents, the same integrated and the same held are one
-SiteView-one : (one other : SiteView) → one.document ≡ other.document → one.seen ≡ other.seen → one.held ≡ other.held → one ≡ other
+SiteView-one : (one other : SiteView) → one.document ≡ other.document → one.seen ≡ other.seen
+    → one.held ≡ other.held → one ≡ other
 SiteView-one one other document seen held = λ i. record { document = document i; seen = seen i; held = held i }
 
 -- new sites on one document are one
@@ -38,7 +41,8 @@ fresh-one d (u ∷ us) (v ∷ vs) long first second =
     cc
 
 -- sessions with the same parts are one
-View-one : (one other : View) → one.function ≡ other.function → one.first ≡ other.first → one.made ≡ other.made → one.sites ≡ other.sites
+View-one : (one other : View) → one.function ≡ other.function → one.first ≡ other.first → one.made ≡ other.made
+    → one.sites ≡ other.sites
     → one.counted ≡ other.counted → one.is_open ≡ other.is_open → one ≡ other
 View-one one other function first made sites counted is_open = λ i. record {
   function = function i;
@@ -50,10 +54,11 @@ View-one one other function first made sites counted is_open = λ i. record {
 }
 
 -- a new session is told by the function, the document and the number of its sites
-pub IsBegun-one : (f : Function) (d : List Cell) (sites : ℕ) (one other : View) → IsBegun f d sites one → IsBegun f d sites other → one ≡ other
+pub IsBegun-one : (f : Function) (d : List Cell) (sites : ℕ) (one other : View) → IsBegun f d sites one
+    → IsBegun f d sites other → one ≡ other
 IsBegun-one f d sites one other first second =
-    View-one one other (first.function ∙ sym second.function) (first.first ∙ sym second.first) (first.made ∙ sym second.made)
-    (fresh-one d one.sites other.sites (first.count ∙ sym second.count) first.fresh second.fresh)
+    View-one one other (first.function ∙ sym second.function) (first.first ∙ sym second.first) (first.made
+    ∙ sym second.made) (fresh-one d one.sites other.sites (first.count ∙ sym second.count) first.fresh second.fresh)
     (first.counted ∙ sym second.counted) (first.is_open ∙ sym second.is_open)
 
 -- lists of sites are one where at each place the documents, the integrated and the held are
@@ -72,7 +77,8 @@ sites-one (u ∷ us) (v ∷ vs) long documents seen held =
     (λ i inside. seen (suc i) (omega (arith, inside))) others in
     cc
 
-module _ (old one other : View) (t n m : ℕ) (o : Op) (first : HasMade old one t o n) (second : HasMade old other t o m) where
+module _ (old one other : View) (t n m : ℕ) (o : Op) (first : HasMade old one t o n)
+    (second : HasMade old other t o m) where
   -- its marks are one
   known-one : first.made.known ≡ second.made.known
   known-one = marks-one first.made.known second.made.known (first.made.room ∙ sym second.made.room)
@@ -80,7 +86,8 @@ module _ (old one other : View) (t n m : ℕ) (o : Op) (first : HasMade old one 
 
   -- so is what was made
   made-one : one.made ≡ other.made
-  made-one = first.made.is ∙ ap (λ (marks : List Bool). old.made ++ record { op = o; known = marks } ∷ []) known-one ∙ sym second.made.is
+  made-one = first.made.is
+      ∙ ap (λ (marks : List Bool). old.made ++ record { op = o; known = marks } ∷ []) known-one ∙ sym second.made.is
 
   -- there are as many sites
   long : length one.sites ≡ length other.sites
@@ -116,8 +123,8 @@ module _ (old one other : View) (t n m : ℕ) (o : Op) (first : HasMade old one 
   pub HasMade-one : (n ≡ m) × (one ≡ other)
   HasMade-one = (
     first.number ∙ sym second.number,
-    View-one one other (first.function ∙ sym second.function) (first.makes.keeps.first ∙ sym second.makes.keeps.first) made-one
-        (sites-one one.sites other.sites long
+    View-one one other (first.function ∙ sym second.function) (first.makes.keeps.first ∙ sym second.makes.keeps.first)
+        made-one (sites-one one.sites other.sites long
         (λ i inside. rw behind at (documents-one (i + 1) (site_at i inside)))
         (λ i inside. rw behind at (seen-one (i + 1) (site_at i inside)))
         (first.held ∙ sym second.held))

@@ -22,7 +22,8 @@ IsForKind-form head o p is declared = elim is [
 ]
 
 -- the form of a usable operation can be transformed
-pub form-usable : (f : Function) (past : Past) (o : ℕ) (l : List ℕ) (p : Op) → IsUsablePast f past → o < past.count → length l ≤ 1024
+pub form-usable : (f : Function) (past : Past) (o : ℕ) (l : List ℕ) (p : Op) → IsUsablePast f past
+    → o < past.count → length l ≤ 1024
     → form f past o l ≡ Some p → IsFormOf (past.operation o) p → IsWithin (most_session_cells + 99 * length l) p
     → IsForKind f.head (kind_of p) × IsInRange p
 form-usable f past o l p usable made few is kept near = (

@@ -1,6 +1,6 @@
 -- What is met where lists of forms are sought one behind the other.
-use Rattle.std.proofs.Common.{◌≡◌, ◌≢◌, ◌≤◌, ◌+◌, ℕ, Bool, true, false, cond, List, [], ◌∷◌, ◌++◌, length, Option, Some, None, is_none, refl, ap, subst, inl}
-use Rattle.std.proofs.Common.{inr, arith}
+use Rattle.std.proofs.Common.{◌≡◌, ◌≢◌, ◌≤◌, ◌+◌, ℕ, Bool, true, false, cond, List, [], ◌∷◌, ◌++◌, length, Option, Some}
+use Rattle.std.proofs.Common.{None, is_none, refl, ap, subst, inl, inr, arith}
 use Rattle.std.specs.Prelude.{nat_eq}
 use Rattle.std.specs.Coded.{Coded, code_by, coded_ℕ, coded_option}
 use Rattle.std.proofs.lemmas.Bool.{cases_Bool, eq-eqb, ne_eqb}
@@ -26,7 +26,8 @@ obstacle_of-missing_count (Missing counted) = refl
 obstacle_of-missing_count Exhausted = refl
 
 pub obstacle_code : Coded (Option Obstacle)
-obstacle_code = coded_option (code_by (Option ℕ) (coded_option coded_ℕ) missing_count obstacle_of obstacle_of-missing_count)
+obstacle_code =
+    coded_option (code_by (Option ℕ) (coded_option coded_ℕ) missing_count obstacle_of obstacle_of-missing_count)
 
 -- counting more counts no less
 pub length-count_sought : (names more : List FormName) → length names ≤ length (count_sought names more)
@@ -37,7 +38,8 @@ length-count_sought names (name ∷ more) = elim (cases_Bool (is_among names nam
 ]
 
 -- two choices, each of which keeps an outcome
-cond-keeps : {T : Type 0} (b : Bool) (x y u v : T) (o : T) → (x ≡ o → u ≡ o) → (y ≡ o → v ≡ o) → cond b x y ≡ o → cond b u v ≡ o
+cond-keeps : {T : Type 0} (b : Bool) (x y u v : T) (o : T) → (x ≡ o → u ≡ o) → (y ≡ o → v ≡ o)
+    → cond b x y ≡ o → cond b u v ≡ o
 cond-keeps true x y u v o one other is = one is
 cond-keeps false x y u v o one other is = other is
 
@@ -68,24 +70,25 @@ module _ (f : Function) (past : Past) where
       cond-keeps (is_among names name)
       (first_obstacle f past total names first)
       (cond (nat_eq total MAX_FORMS) (Some Exhausted)
-      (cond (is_none (form f past name.of name.behind)) (Some (Missing (total + 1))) (first_obstacle f past (total + 1) (name ∷ names) first)))
-      (first_obstacle f past total names (first ++ more))
+      (cond (is_none (form f past name.of name.behind)) (Some (Missing (total + 1)))
+      (first_obstacle f past (total + 1) (name ∷ names) first))) (first_obstacle f past total names (first ++ more))
       (cond (nat_eq total MAX_FORMS) (Some Exhausted)
-      (cond (is_none (form f past name.of name.behind)) (Some (Missing (total + 1))) (first_obstacle f past (total + 1) (name ∷ names) (first ++ more))))
-      (Some o)
+      (cond (is_none (form f past name.of name.behind)) (Some (Missing (total + 1)))
+      (first_obstacle f past (total + 1) (name ∷ names) (first ++ more)))) (Some o)
       (first_obstacle-stops total names first more o)
       (cond-keeps (nat_eq total MAX_FORMS) (Some Exhausted)
-      (cond (is_none (form f past name.of name.behind)) (Some (Missing (total + 1))) (first_obstacle f past (total + 1) (name ∷ names) first))
-      (Some Exhausted)
-      (cond (is_none (form f past name.of name.behind)) (Some (Missing (total + 1))) (first_obstacle f past (total + 1) (name ∷ names) (first ++ more)))
-      (Some o) (λ same. same)
-      (cond-keeps (is_none (form f past name.of name.behind)) (Some (Missing (total + 1))) (first_obstacle f past (total + 1) (name ∷ names) first)
-      (Some (Missing (total + 1))) (first_obstacle f past (total + 1) (name ∷ names) (first ++ more))
-      (Some o) (λ same. same) (first_obstacle-stops (total + 1) (name ∷ names) first more o)))
+      (cond (is_none (form f past name.of name.behind)) (Some (Missing (total + 1)))
+      (first_obstacle f past (total + 1) (name ∷ names) first)) (Some Exhausted)
+      (cond (is_none (form f past name.of name.behind)) (Some (Missing (total + 1)))
+      (first_obstacle f past (total + 1) (name ∷ names) (first ++ more))) (Some o) (λ same. same)
+      (cond-keeps (is_none (form f past name.of name.behind)) (Some (Missing (total + 1))) (first_obstacle f past
+      (total + 1) (name ∷ names) first) (Some (Missing (total + 1))) (first_obstacle f past (total + 1) (name ∷ names)
+      (first ++ more)) (Some o) (λ same. same) (first_obstacle-stops (total + 1) (name ∷ names) first more o)))
       is
 
   -- behind some that nothing is in the way of, the others are sought
-  pub first_obstacle-goes_on : (others : ℕ) (names first more : List FormName) → first_obstacle f past (others + length names) names first ≡ None
+  pub first_obstacle-goes_on : (others : ℕ) (names first more : List FormName)
+      → first_obstacle f past (others + length names) names first ≡ None
       → first_obstacle f past (others + length names) names (first ++ more)
       ≡ first_obstacle f past (others + length (count_sought names first)) (count_sought names first) more
   first_obstacle-goes_on others names [] more free = refl
@@ -117,16 +120,20 @@ module _ (f : Function) (past : Past) where
   ]
 
   -- a form that was not counted, where the count is spent
-  pub first_obstacle-exhausted : (total : ℕ) (names : List FormName) (name : FormName) → is_among names name ≡ false → total ≡ MAX_FORMS
+  pub first_obstacle-exhausted : (total : ℕ) (names : List FormName) (name : FormName)
+      → is_among names name ≡ false → total ≡ MAX_FORMS
       → first_obstacle f past total names (name ∷ []) ≡ Some Exhausted
   first_obstacle-exhausted total names name new spent = rw (new, eq-eqb total MAX_FORMS spent) refl
 
   -- one that does not exist
-  pub first_obstacle-missing : (total : ℕ) (names : List FormName) (name : FormName) → is_among names name ≡ false → total ≢ MAX_FORMS
-      → form f past name.of name.behind ≡ None → first_obstacle f past total names (name ∷ []) ≡ Some (Missing (total + 1))
+  pub first_obstacle-missing : (total : ℕ) (names : List FormName) (name : FormName)
+      → is_among names name ≡ false → total ≢ MAX_FORMS
+      → form f past name.of name.behind ≡ None
+      → first_obstacle f past total names (name ∷ []) ≡ Some (Missing (total + 1))
   first_obstacle-missing total names name new unspent none = rw (new, ne_eqb total MAX_FORMS unspent, none) refl
 
   -- one that does
-  pub first_obstacle-there : (total : ℕ) (names : List FormName) (name : FormName) (p : Op) → is_among names name ≡ false → total ≢ MAX_FORMS
+  pub first_obstacle-there : (total : ℕ) (names : List FormName) (name : FormName) (p : Op)
+      → is_among names name ≡ false → total ≢ MAX_FORMS
       → form f past name.of name.behind ≡ Some p → first_obstacle f past total names (name ∷ []) ≡ None
   first_obstacle-there total names name p new unspent there = rw (new, ne_eqb total MAX_FORMS unspent, there) refl

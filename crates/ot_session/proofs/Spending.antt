@@ -1,6 +1,6 @@
 -- Where the most forms that the sites can count are no more than are allowed, the count is never spent.
-use Rattle.std.proofs.Common.{◌≡◌, ◌≢◌, ◌<◌, ◌≤◌, ◌+◌, ◌-◌, ◌*◌, ◌⊎◌, ◌++◌, ◌∷◌, [], ℕ, zero, suc, Bool, true, false, cond, List, length, Some, is_none, Err}
-use Rattle.std.proofs.Common.{refl, sym, ap, ◌∙◌, subst, inl, inr, arith}
+use Rattle.std.proofs.Common.{◌≡◌, ◌≢◌, ◌<◌, ◌≤◌, ◌+◌, ◌-◌, ◌*◌, ◌⊎◌, ◌++◌, ◌∷◌, [], ℕ, zero, suc, Bool, true, false}
+use Rattle.std.proofs.Common.{cond, List, length, Some, is_none, Err, refl, sym, ap, ◌∙◌, subst, inl, inr, arith}
 use Rattle.std.specs.Prelude.{nat_eq, slice_set}
 use Rattle.std.proofs.Common.{get_or-set_other, length-append}
 use Rattle.std.proofs.lemmas.Bool.{false≢true, cases_eq, eqb-true, ne_eqb, or_from}
@@ -35,27 +35,41 @@ record Exceeds (total : ℕ) (names more : List FormName) : Type 0 where
   pub over : MAX_FORMS + length names < total + length (count_sought names reached)
 
 -- so it is where the count is spent
-Exceeds-exhausted : (f : Function) (past : Past) (total : ℕ) (names more : List FormName) → first_obstacle f past total names more ≡ Some Exhausted
+Exceeds-exhausted : (f : Function) (past : Past) (total : ℕ) (names more : List FormName)
+    → first_obstacle f past total names more ≡ Some Exhausted
     → Exceeds total names more
 Exceeds-exhausted f past total names [] is = cc
 Exceeds-exhausted f past total names (name ∷ more) is =
     elim (cond-cases (is_among names name)
     (first_obstacle f past total names more)
     (cond (nat_eq total MAX_FORMS) (Some Exhausted)
-    (cond (is_none (form f past name.of name.behind)) (Some (Missing (total + 1))) (first_obstacle f past (total + 1) (name ∷ names) more)))
+    (cond (is_none (form f past name.of name.behind)) (Some (Missing (total + 1)))
+    (first_obstacle f past (total + 1) (name ∷ names) more)))
     (Some Exhausted) is) [
       | inl among ↦ (
           let later : Exceeds total names more = Exceeds-exhausted f past total names more among.1 in
-          record { reached = name ∷ later.reached; rest = later.rest; split = ap (λ l. name ∷ l) later.split; over = rw (among.0) later.over })
+          record {
+            reached = name ∷ later.reached;
+            rest = later.rest;
+            split = ap (λ l. name ∷ l) later.split;
+            over = rw (among.0) later.over;
+          })
       | inr new ↦ elim (cond-cases (nat_eq total MAX_FORMS) (Some Exhausted)
-          (cond (is_none (form f past name.of name.behind)) (Some (Missing (total + 1))) (first_obstacle f past (total + 1) (name ∷ names) more))
+          (cond (is_none (form f past name.of name.behind)) (Some (Missing (total + 1)))
+          (first_obstacle f past (total + 1) (name ∷ names) more))
           (Some Exhausted) new.1) [
-            | inl spent ↦ record { reached = name ∷ []; rest = more; split = refl; over = rw (new.0) (omega (arith, eqb-true total MAX_FORMS spent.0)) }
+            | inl spent ↦ record {
+              reached = name ∷ [];
+              rest = more;
+              split = refl;
+              over = rw (new.0) (omega (arith, eqb-true total MAX_FORMS spent.0));
+            }
             | inr unspent ↦ elim (cond-cases (is_none (form f past name.of name.behind)) (Some (Missing (total + 1)))
                 (first_obstacle f past (total + 1) (name ∷ names) more) (Some Exhausted) unspent.1) [
                   | inl missing ↦ absurd (let differ : Some (Missing (total + 1)) ≡ Some Exhausted = missing.1 in cc)
                   | inr there ↦ (
-                      let later : Exceeds (total + 1) (name ∷ names) more = Exceeds-exhausted f past (total + 1) (name ∷ names) more there.1 in
+                      let later : Exceeds (total + 1) (name ∷ names) more =
+                      Exceeds-exhausted f past (total + 1) (name ∷ names) more there.1 in
                       record {
                         reached = name ∷ later.reached;
                         rest = later.rest;
@@ -67,7 +81,8 @@ Exceeds-exhausted f past total names (name ∷ more) is =
     ]
 
 -- sites that count at most so many each
-counted_to-few : (session : SessionData) (most n : ℕ) → ((s : ℕ) → IsSite n s → length (counted session.past (session.seen s)) ≤ most)
+counted_to-few : (session : SessionData) (most n : ℕ)
+    → ((s : ℕ) → IsSite n s → length (counted session.past (session.seen s)) ≤ most)
     → counted_to session n ≤ n * most
 counted_to-few session most zero few = omega arith
 counted_to-few session most (suc n) few = omega (
@@ -77,14 +92,21 @@ counted_to-few session most (suc n) few = omega (
 )
 
 -- one of them that counts less leaves room
-counted_to-room : (session : SessionData) (most n t : ℕ) → ((s : ℕ) → IsSite n s → length (counted session.past (session.seen s)) ≤ most)
+counted_to-room : (session : SessionData) (most n t : ℕ)
+    → ((s : ℕ) → IsSite n s → length (counted session.past (session.seen s)) ≤ most)
     → IsSite n t → counted_to session n + most ≤ n * most + length (counted session.past (session.seen t))
 counted_to-room session most zero t few site = absurd (omega (arith, site.low, site.high))
 counted_to-room session most (suc n) t few site = elim (cases_eq t (suc n)) [
   | inl last ↦ (
-      let there : length (counted session.past (session.seen t)) ≡ length (counted session.past (session.seen (suc n))) =
+      let there : length (counted session.past (session.seen t))
+      ≡ length (counted session.past (session.seen (suc n))) =
       ap (λ (s : ℕ). length (counted session.past (session.seen s))) last in
-      omega (arith, there, counted_to-few session most n (λ s is. few s (record { low = is.low; high = omega (arith, is.high) }))))
+      omega (
+        arith,
+        there,
+        counted_to-few session most n
+            (λ s is. few s (record { low = is.low; high = omega (arith, is.high) })),
+      ))
   | inr other ↦ omega (
     arith,
     counted_to-room session most n t (λ s is. few s (record { low = is.low; high = omega (arith, is.high) }))
@@ -105,7 +127,8 @@ unmarked-set (b ∷ marks) zero = refl
 unmarked-set (b ∷ marks) (suc o) = unmarked-set marks o
 
 -- what was integrated is not held any more
-HoldsOthers-integrated : (f : Function) (past : Past) (count o : ℕ) (old new : SiteStanding) → HasIntegrated f past o old new → HoldsOthers count old.site
+HoldsOthers-integrated : (f : Function) (past : Past) (count o : ℕ) (old new : SiteStanding)
+    → HasIntegrated f past o old new → HoldsOthers count old.site
     → HoldsOthers count new.site
 HoldsOthers-integrated f past count o old new step holds = record {
   made = λ x is. holds.made x (was x is);
@@ -129,7 +152,8 @@ record Reached (past : Past) (n : ℕ) (done : List ℕ) (site : SiteView) : Typ
   pub holds : HoldsOthers past.count site
   pub first : done ≡ [] → IsNext past site.seen n
 
-Reached-course : (f : Function) (past : Past) (n : ℕ) (old : SiteStanding) (done : List ℕ) (new : SiteStanding) → Reached past n [] old.site
+Reached-course : (f : Function) (past : Past) (n : ℕ) (old : SiteStanding) (done : List ℕ) (new : SiteStanding)
+    → Reached past n [] old.site
     → IsCourse f past n old done new → Reached past n done new.site
 Reached-course f past n old _ _ reached start = reached
 Reached-course f past n old _ _ reached (then done mid new o course turn step) =
@@ -140,7 +164,8 @@ Reached-course f past n old _ _ reached (then done mid new o course turn step) =
     }
 
 -- whose turn it is is next
-IsNext-turn : (past : Past) (n : ℕ) (done : List ℕ) (site : SiteView) (o : ℕ) → Reached past n done site → IsTurn past n done site o
+IsNext-turn : (past : Past) (n : ℕ) (done : List ℕ) (site : SiteView) (o : ℕ) → Reached past n done site
+    → IsTurn past n done site o
     → IsNext past site.seen o
 IsNext-turn past n [] site o reached turn = subst (λ (m : ℕ). IsNext past site.seen m) (sym turn) (reached.first refl)
 IsNext-turn past n (_ ∷ _) site o reached turn = record {
@@ -152,12 +177,15 @@ IsNext-turn past n (_ ∷ _) site o reached turn = record {
 module _ (f : Function)
     (whole : (session : SessionData) (s : ℕ) → IsSound f session → IsSite session.sites s
     → length (counted session.past (session.seen s)) ≤ most_forms session.past session.sites)
-    (within : (session : SessionData) (s o : ℕ) (names more : List FormName) → IsSound f session → IsSite session.sites s
+    (within : (session : SessionData) (s o : ℕ) (names more : List FormName)
+    → IsSound f session → IsSite session.sites s
     → IsNext session.past (session.seen s) o → sought session.past o (session.seen s) ≡ names ++ more
     → length (count_sought (counted session.past (session.seen s)) names) ≤ most_forms session.past session.sites) where
   -- where as many are allowed as all sites can count, the count is not spent
-  unspent : (session : SessionData) (t o : ℕ) → IsSound f session → IsSite session.sites t → IsNext session.past (session.seen t) o
-      → session.sites * most_forms session.past session.sites ≤ MAX_FORMS → ¬ (IsCountSpent f session.past (all_counted session) (session.seen t) o)
+  unspent : (session : SessionData) (t o : ℕ) → IsSound f session → IsSite session.sites t
+      → IsNext session.past (session.seen t) o
+      → session.sites * most_forms session.past session.sites ≤ MAX_FORMS
+      → ¬ (IsCountSpent f session.past (all_counted session) (session.seen t) o)
   unspent session t o sound site next enough spent =
       let most : ℕ = most_forms session.past session.sites in
       let names : List FormName = counted session.past (session.seen t) in
@@ -170,13 +198,17 @@ module _ (f : Function)
       omega (arith, exceeds.over, few, room, enough)
 
   -- so no take is answered so
-  pub never-spent : (first : List Cell) (made : List Made) (sites : List SiteView) (t : ℕ) (site : IsSite (length sites) t)
+  pub never-spent : (first : List Cell) (made : List Made) (sites : List SiteView) (t : ℕ)
+      (site : IsSite (length sites) t)
       → ((old new : SessionData) (s o : ℕ) → IsSound f old → Integrates f old new s o → IsSound f new)
       → ((old new : SessionData) (s o : ℕ) → IsSound f old → Integrates f old new s o
-      → all_counted new + length (counted old.past (old.seen s)) ≡ all_counted old + length (counted new.past (new.seen s)))
-      → (n : ℕ) (old new : SiteStanding) → n < length made → HoldsOthers (length made) old.site → IsSound f (with f first made sites t site old.site)
+      → all_counted new + length (counted old.past (old.seen s))
+      ≡ all_counted old + length (counted new.past (new.seen s)))
+      → (n : ℕ) (old new : SiteStanding) → n < length made → HoldsOthers (length made) old.site
+      → IsSound f (with f first made sites t site old.site)
       → all_counted (with f first made sites t site old.site) ≡ old.counted
-      → length sites * most_forms (past_of made) (length sites) ≤ MAX_FORMS → ¬ (Takes f (past_of made) n old new (Err Spent))
+      → length sites * most_forms (past_of made) (length sites) ≤ MAX_FORMS
+      → ¬ (Takes f (past_of made) n old new (Err Spent))
   never-spent first made sites t site sound_law count_law n old new there holds sound all enough takes =
       let past : Past = past_of made in
       let mid : SiteStanding = takes.mid in
@@ -187,9 +219,13 @@ module _ (f : Function)
       let seen : session.seen t ≡ mid.site.seen = seen_with f first made sites t site mid.site in
       let reached : Reached past n takes.done mid.site =
       Reached-course f past n old takes.done mid
-      (record { holds = holds; first = λ none. IsNext-unknown past old.site n there takes.integrates.unknown takes.integrates.ready })
-      takes.integrates.course in
-      let next : IsNext past mid.site.seen takes.o = IsNext-turn past n takes.done mid.site takes.o reached takes.turn in
+      (record {
+        holds = holds;
+        first = λ none.
+            IsNext-unknown past old.site n there takes.integrates.unknown takes.integrates.ready;
+      }) takes.integrates.course in
+      let next : IsNext past mid.site.seen takes.o =
+      IsNext-turn past n takes.done mid.site takes.o reached takes.turn in
       let same : length (slice_set sites (t - 1) mid.site) ≡ length sites = length-set sites (t - 1) mid.site in
       unspent session t takes.o follows.sound (site_with f first made sites t site mid.site)
       (subst (λ (l : List ℕ). IsNext past l takes.o) (sym seen) next)

@@ -1,5 +1,6 @@
 -- The operations of a sound session can be transformed: they were enabled on documents that are not too long.
-use Rattle.std.proofs.Common.{◌≡◌, ◌<◌, ◌≤◌, ◌+◌, ℕ, zero, suc, List, [], ◌∷◌, length, Option, Some, None, refl, sym, ap, subst, inl, inr, arith}
+use Rattle.std.proofs.Common.{◌≡◌, ◌<◌, ◌≤◌, ◌+◌, ℕ, zero, suc, List, [], ◌∷◌, length, Option, Some, None, refl, sym}
+use Rattle.std.proofs.Common.{ap, subst, inl, inr, arith}
 use Rattle.std.specs.Option.{option_and_then}
 use Rattle.std.proofs.lemmas.Int.{ints}
 use Rattle.std.proofs.lemmas.Bool.{cases_Bool, cases_lt}
@@ -32,7 +33,8 @@ IsWithin-enabled n (Del at site) enabled = (omega (arith, ints), omega (arith, i
 IsWithin-enabled n (Upd at ch site) enabled = (omega (arith, ints), omega (arith, ints))
 IsWithin-enabled n Nop enabled = (omega (arith, ints), omega (arith, ints))
 
-length-executed : (f : Function) → GrowByOne → (p : Option Op) (d e : List Cell) → executed f p d ≡ Some e → length e ≤ length d + 1
+length-executed : (f : Function) → GrowByOne → (p : Option Op) (d e : List Cell) → executed f p d ≡ Some e
+    → length e ≤ length d + 1
 length-executed f grow None d e is = cc
 length-executed f grow (Some p) d e is = elim (cases_Bool (is_enabled p (length d))) [
   | inl enabled ↦ (let same : document_after f.head.mode p d ≡ e = let some = rw enabled at is in cc in
@@ -41,11 +43,13 @@ length-executed f grow (Some p) d e is = elim (cases_Bool (is_enabled p (length 
 ]
 
 -- each member of a list makes the document longer by at most one cell
-length-state : (f : Function) → GrowByOne → (past : Past) (first : List Cell) (l : List ℕ) (d : List Cell) → state f past first l ≡ Some d
+length-state : (f : Function) → GrowByOne → (past : Past) (first : List Cell) (l : List ℕ) (d : List Cell)
+    → state f past first l ≡ Some d
     → length d ≤ length first + length l
 unfolding state
 length-state f grow past first [] d is = let same : first ≡ d = cc in omega (arith, ap length same)
-length-state f grow past first (o ∷ l) d is = by (state f past first l) refl is (λ e. length-state f grow past first l e)
+length-state f grow past first (o ∷ l) d is =
+    by (state f past first l) refl is (λ e. length-state f grow past first l e)
   where
     by : (older : Option (List Cell)) → state f past first l ≡ older
         → option_and_then (λ e. executed f (form f past o l) e) older ≡ Some d
@@ -64,7 +68,8 @@ unmade [] o outside = refl
 unmade (m ∷ made) zero outside = absurd (omega (arith, outside))
 unmade (m ∷ made) (suc o) outside = unmade made o (omega (arith, outside))
 
-module _ (f : Function) (grow : GrowByOne) (made : List Made) (first : List Cell) (few : length made ≤ MAX_MADE) (small : length first ≤ MAX_CELLS)
+module _ (f : Function) (grow : GrowByOne) (made : List Made) (first : List Cell) (few : length made ≤ MAX_MADE)
+    (small : length first ≤ MAX_CELLS)
     (short : (l : List ℕ) → IsClosed (past_of made) l → length l ≤ length made)
     (sound : IsSoundPast f (past_of made) first) (sites : ℕ) (most : sites ≤ MAX_SITES)
     (owned : (o : ℕ) → o < length made → IsSite sites (maker (past_of made) o)) where
@@ -72,9 +77,16 @@ module _ (f : Function) (grow : GrowByOne) (made : List Made) (first : List Cell
   near o = elim (cases_lt o (length made)) [
     | inl inside ↦ (let born = sound.born o inside in
         IsWithin-more (length born.document) most_session_cells ((past_of made).operation o)
-        (omega (arith, length-state f grow (past_of made) first born.known born.document born.is, short born.known born.closed, few, small))
-        (IsWithin-enabled (length born.document) ((past_of made).operation o) born.enabled))
-    | inr outside ↦ subst (λ (p : Op). IsWithin most_session_cells p) (sym (unmade made o outside)) (omega (arith, ints), omega (arith, ints))
+        (omega (
+          arith,
+          length-state f grow (past_of made) first born.known born.document born.is,
+          short born.known
+              born.closed,
+          few,
+          small,
+        )) (IsWithin-enabled (length born.document) ((past_of made).operation o) born.enabled))
+    | inr outside ↦ subst (λ (p : Op). IsWithin most_session_cells p) (sym (unmade made o outside))
+        (omega (arith, ints), omega (arith, ints))
   ]
 
   -- the operations of a sound session are usable

@@ -1,5 +1,6 @@
 -- Documents are told apart by their cells; what is seen of a site.
-use Rattle.std.proofs.Common.{◌≡◌, ◌<◌, ◌+◌, ◌-◌, ℕ, Bool, List, length, map, Option, Some, refl, ap, ◌∙◌, subst, reverse, get_or, arith}
+use Rattle.std.proofs.Common.{◌≡◌, ◌<◌, ◌+◌, ◌-◌, ℕ, Bool, List, length, map, Option, Some, refl, ap, ◌∙◌, subst}
+use Rattle.std.proofs.Common.{reverse, get_or, arith}
 use Rattle.std.specs.Prelude.{slice_get, Result, Ok, Err, OnErr}
 use Rattle.std.specs.Option.{option_map}
 use Rattle.std.specs.Coded.{Coded, code_by, coded×, coded_ℕ, coded_bool, coded_list, coded_option}
@@ -15,7 +16,8 @@ use Rattle.ot_session.specs.Past.{past_of}
 use Rattle.ot_session.specs.Sites.{view_site, seen_in, data_of, IsSameSite}
 
 cell_code : Coded Cell
-cell_code = code_by (ℕ × Bool) (coded× coded_ℕ coded_bool) (λ c. (c.ch, c.live)) (λ p. record { ch = p.0; live = p.1 }) (λ _. refl)
+cell_code = code_by (ℕ × Bool) (coded× coded_ℕ coded_bool) (λ c. (c.ch, c.live))
+    (λ p. record { ch = p.0; live = p.1 }) (λ _. refl)
 
 pub document_code : Coded (Option (List Cell))
 document_code = coded_option (coded_list cell_code)
@@ -29,7 +31,8 @@ OnErr-always (Err e) holds = holds
 pub viewed : (sites : List Site) (i : ℕ) (site : Site) → i < length sites → site ≡ get_or sites i site
     → slice_get (map view_site sites) i ≡ Some (view_site site)
 viewed sites i site inside is =
-    slice_get-map view_site sites i ∙ ap (option_map view_site) (slice_get_read sites (length sites) i site refl inside is)
+    slice_get-map view_site sites i
+    ∙ ap (option_map view_site) (slice_get_read sites (length sites) i site refl inside is)
 
 -- a site of which nothing changed is seen as it was
 pub view_site-same : (old new : Site) → IsSameSite old new → view_site new ≡ view_site old
@@ -39,7 +42,8 @@ view_site-same old new same =
     ∙ ap (λ (marks : List Bool). record { document = old.doc; seen = reverse old.seen.items; held = marks }) same.held
 
 -- what a site of a sound session has integrated is closed
-pub closed_session-viewed : (f : Function) (first : List Cell) (made : List Made) (sites : List Site) → IsSound f (data_of first made (map view_site sites))
+pub closed_session-viewed : (f : Function) (first : List Cell) (made : List Made) (sites : List Site)
+    → IsSound f (data_of first made (map view_site sites))
     → (i : ℕ) (s : Site) → slice_get sites i ≡ Some s → IsClosed (past_of made) (reverse s.seen.items)
 closed_session-viewed f first made sites sound i s is =
     let place : i + 1 - 1 ≡ i = omega arith in

@@ -14,7 +14,8 @@ use Rattle.ot_session.specs.Views.{View, data_in}
 abbrev pub HasRefused : View → ℕ → Op → Make → Type 0
 HasRefused v t o NoSite = ¬ (IsSite (data_in v).sites t)
 HasRefused v t o WrongSite = IsSite (data_in v).sites t × (site_of o ≢ Some t)
-HasRefused v t o WrongKind = IsSite (data_in v).sites t × (site_of o ≡ Some t) × (¬ (HasDeclaredKind v.function.head (kind_of o)))
+HasRefused v t o WrongKind =
+    IsSite (data_in v).sites t × (site_of o ≡ Some t) × (¬ (HasDeclaredKind v.function.head (kind_of o)))
 HasRefused v t o NotEnabled =
     IsSite (data_in v).sites t × (site_of o ≡ Some t) × HasDeclaredKind v.function.head (kind_of o)
     × (¬ (IsEnabled o (length ((data_in v).document t))))

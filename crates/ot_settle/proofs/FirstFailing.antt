@@ -10,10 +10,10 @@ use Rattle.ot_questions.specs.Obligation.{plan_of}
 use Rattle.plan_proofs.specs.declared.ended.Ended.{Ended}
 use Rattle.plan_proofs.specs.declared.ended.Ended.TheVariants.{Shown, Fails, Spent}
 use Rattle.ot_settle.specs.declared.ended.FailingOb.{FailingOb}
-use Rattle.failing_ends.specs.declared.ending.FailingEnd.{FailingEnd}
+use Rattle.ot_settle.specs.declared.ending.FailingEnd.{FailingEnd}
 use Rattle.ot_settle.specs.Searching.{FailsAmong}
 use Rattle.plan_proofs.specs.Searching.{FailsOnlySo}
-use Rattle.failing_ends.specs.Endings.{IsFailingEnd}
+use Rattle.ot_settle.specs.Endings.{IsFailingEnd}
 use Rattle.ot_questions.specs.declared.why.Why.{Why}
 
 module _ (f : Function) (names : List ObName) (ob : ObName) (others : List ObName) (are : names ≡ ob ∷ others)
@@ -30,7 +30,8 @@ module _ (f : Function) (names : List ObName) (ob : ObName) (others : List ObNam
   others_listed = all_listed.1
 
   -- the first one fails
-  pub first_fails : (end : FailingEnd Why) → IsFailingEnd (plan_of f ob) end → FailsAmong f names (record { ob = ob; end = end })
+  pub first_fails : (end : FailingEnd Why) → IsFailingEnd (plan_of f ob) end
+      → FailsAmong f names (record { ob = ob; end = end })
   first_fails end leads =
       rw are (record {
         asked = Contains-append_left (ob ∷ []) others ob (0, omega arith, refl);

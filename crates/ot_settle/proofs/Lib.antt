@@ -1,1 +1,2 @@
 mod FirstFailing
+mod Walks

@@ -11,7 +11,7 @@ use Rattle.ot_prove.specs.declared.outcome.Answer.{Answer}
 use Rattle.ot_questions.specs.declared.why.Why.{Why}
 use Rattle.ot_questions.specs.Obligation.{plan_of}
 use Rattle.ot_confirm.specs.Judgement.{judgement_of}
-use Rattle.failing_ends.specs.Endings.{AnswersLeadTo}
+use Rattle.ot_settle.specs.Endings.{AnswersLeadTo}
 use Rattle.plan_proofs.specs.declared.planning.TheConstants.{MAX_BYTES}
 use Rattle.plan_proofs.specs.declared.ended.Questions.{Questions}
 use Rattle.plan_proofs.specs.declared.ended.SpentCause.{SpentCause}

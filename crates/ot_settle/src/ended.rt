@@ -1,5 +1,5 @@
 //! An obligation that fails.
-use failing_ends::FailingEnd;
+use crate::FailingEnd;
 use fn_rules::ObName;
 use ot_questions::Why;
 

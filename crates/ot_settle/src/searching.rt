@@ -6,13 +6,13 @@ ghost use Rattle.fn_rules.specs.Rules.{function_of};
 ghost use Rattle.ot_questions.specs.Obligation.{plan_of};
 ghost use Rattle.ot_settle.specs.Searching.{FailsAmong};
 ghost use Rattle.plan_proofs.specs.Searching.{FailsOnlySo, IsWithin, MaySpend, SpendsOnlySo};
-ghost use Rattle.failing_ends.specs.Endings.{IsFailingEnd};
+ghost use Rattle.ot_settle.specs.Endings.{IsFailingEnd};
 
 use crate::ended::FailingOb;
 use crate::text::Text;
+use crate::{FailingEnd, failing_end};
 use ask_core::NoMemory;
 use bumpalo::Bump;
-use failing_ends::{FailingEnd, failing_end};
 use fn_rules::{ObName, Rules};
 use ot_questions::Why;
 use plan_proofs::{Ended, FindingStarts, Questions, Searched, SpentCause, search_plan};

@@ -5,19 +5,21 @@ use Rattle.ot_terms.specs.Weights.{goal_weight}
 use Rattle.ot_terms.specs.Forms.{FormTree}
 use Rattle.ot_terms.specs.Goals.{GoalTree, If, order_goal, laid_form}
 use Rattle.ot_terms.proofs.ByForms.{form_through}
-use Rattle.laid_goals.proofs.LaidForms.{alike_laid, yes_is_lighter, no_is_lighter}
-use Rattle.marked_goals.specs.Marking.{marked_places, marked_form, marked_goal}
-use Rattle.marked_goals.specs.Settled.{StandsMarked}
+use Rattle.ot_paths.proofs.LaidForms.{alike_laid, yes_is_lighter, no_is_lighter}
+use Rattle.start_laws.specs.Marking.{marked_places, marked_form, marked_goal}
+use Rattle.start_laws.specs.Settled.{StandsMarked}
 use Rattle.ot_starts.proofs.Turns.{alike_asks}
 
 module _ (f : Function) where
   -- a form that is laid out has the starts of its two goals, where the form has them
-  laid_marks : (g : FormTree) (p q : GoalTree) → marked_goal f (laid_form g p q) ≡ marked_form g (marked_goal f p) (marked_goal f q)
+  laid_marks : (g : FormTree) (p q : GoalTree)
+      → marked_goal f (laid_form g p q) ≡ marked_form g (marked_goal f p) (marked_goal f q)
   unfolding marked_goal marked_form
   laid_marks = form_through order_goal marked_places (marked_goal f) (λ x y p q differ. rw differ refl)
 
   marked_laid :
-      (g : FormTree) (y n p q : GoalTree) → StandsMarked f y p → StandsMarked f n q → StandsMarked f (If g y n) (laid_form g p q)
+      (g : FormTree) (y n p q : GoalTree) → StandsMarked f y p → StandsMarked f n q
+      → StandsMarked f (If g y n) (laid_form g p q)
   unfolding marked_goal
   marked_laid g y n p q hy hn = record {
     marked = laid_marks g p q

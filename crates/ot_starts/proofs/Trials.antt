@@ -6,13 +6,13 @@ use Rattle.ot_questions.specs.declared.place.SymOp.{SymOp}
 use Rattle.ot_terms.specs.Belonging.{IsGoalOf}
 use Rattle.ot_terms.specs.Goals.{GoalTree}
 use Rattle.ot_terms.specs.Weights.{goal_weight}
-use Rattle.goal_rules.specs.declared.choosing.Trial.{Trial}
-use Rattle.goal_rules.specs.Steps.{trial_tree}
-use Rattle.goal_rules.specs.Table.{rewritten}
-use Rattle.laid_goals.specs.Trials as laid
+use Rattle.ot_rewrite.specs.declared.choosing.Trial.{Trial}
+use Rattle.ot_rewrite.specs.Steps.{trial_tree}
+use Rattle.ot_rewrite.specs.Table.{rewritten}
+use Rattle.ot_paths.specs.Trials as laid
 use Rattle.ot_rewrite.specs.Fronts.{is_at_front}
-use Rattle.marked_goals.specs.Marking.{marked_goal}
-use Rattle.marked_goals.specs.Settled.{front_start, is_begun, is_settled}
+use Rattle.start_laws.specs.Marking.{marked_goal}
+use Rattle.start_laws.specs.Settled.{front_start, is_begun, is_settled}
 use Rattle.ot_starts.specs.Trials.{IsTrialOf}
 
 -- no transformation begins at the goal

@@ -25,9 +25,9 @@ use Rattle.ot_terms.specs.Goals.{GoalTree, If, goal_tree}
 use Rattle.ot_terms.specs.Standing.{ask_goal}
 use Rattle.ot_rewrite.specs.Fronts.{is_question}
 use Rattle.ot_paths.specs.Nodes.{IsNode, literal}
-use Rattle.marked_goals.specs.Marking.{Marked, marked_form, marked_goal, with_start}
-use Rattle.marked_goals.specs.Settled.{is_settled, StandsMarked, OpensStart}
-use Rattle.marked_goals.proofs.Unmarked.{unmarked-goal, unmarked-with_start}
+use Rattle.start_laws.specs.Marking.{Marked, marked_form, marked_goal, with_start}
+use Rattle.start_laws.specs.Settled.{is_settled, StandsMarked, OpensStart}
+use Rattle.start_laws.proofs.Unmarked.{unmarked-goal, unmarked-with_start}
 use Rattle.ot_starts.specs.Nodes.{IsStop}
 use Rattle.ot_starts.specs.Turns.{TurnsAs}
 
@@ -62,12 +62,14 @@ differs false q = refl
 differs true q = sym q
 
 module _ (f : Function) where
-  pub holds_begin : (p : Marked) → with_start None p ≡ with_start None (marked_goal f goals.Holds) → p ≡ Holds (start_of p)
+  pub holds_begin : (p : Marked)
+      → with_start None p ≡ with_start None (marked_goal f goals.Holds) → p ≡ Holds (start_of p)
   unfolding marked_goal
   holds_begin p e = holds_but_start p e
 
   pub fails_begin :
-      (why : Why) (p : Marked) → with_start None p ≡ with_start None (marked_goal f (goals.Fails why)) → p ≡ Fails (start_of p) why
+      (why : Why) (p : Marked) → with_start None p ≡ with_start None (marked_goal f (goals.Fails why))
+      → p ≡ Fails (start_of p) why
   unfolding marked_goal
   fails_begin why p e = fails_but_start p why e
 
@@ -79,7 +81,8 @@ module _ (f : Function) where
 
   -- the places of a question are near
   pub places_near :
-      (ob : ObName) (t : FormTree) (x y : Place) (on_yes on_no : GoalTree) → t ≡ Le x y → IsGoalOf f ob (If t on_yes on_no)
+      (ob : ObName) (t : FormTree) (x y : Place) (on_yes on_no : GoalTree) → t ≡ Le x y
+      → IsGoalOf f ob (If t on_yes on_no)
       → IsNear 1000 x.off × IsNear 1000 y.off
   places_near ob t x y on_yes on_no is h =
       let places : IsPlace (name_count ob) x × IsPlace (name_count ob) y
@@ -114,13 +117,16 @@ module _ (f : Function) where
         let marks = question_marks x y on_yes on_no (differs (nat_eq x.var y.var) asked) in
         let fine : IsFine (name_count ob)
         (plain.Ask (literal x y) (unmarked (marked_goal f on_yes)) (unmarked (marked_goal f on_no)))
-        = subst (IsFine (name_count ob)) (sym (unmarked-goal f (If (Le x y) on_yes on_no)) ∙ ap unmarked marks) node.fine in (
+        = subst (IsFine (name_count ob)) (sym (unmarked-goal f (If (Le x y) on_yes on_no))
+        ∙ ap unmarked marks) node.fine in (
           stop_of ob on_yes to_yes yes_alike yes_settled
               (record { declared = node.goal.declared; parts = node.goal.parts.1 })
-              (fine_yes (name_count ob) (literal x y) (unmarked (marked_goal f on_yes)) (unmarked (marked_goal f on_no)) fine),
+              (fine_yes (name_count ob) (literal x y) (unmarked (marked_goal f on_yes))
+              (unmarked (marked_goal f on_no)) fine),
           stop_of ob on_no to_no no_alike no_settled
               (record { declared = node.goal.declared; parts = node.goal.parts.2 })
-              (fine_no (name_count ob) (literal x y) (unmarked (marked_goal f on_yes)) (unmarked (marked_goal f on_no)) fine),
+              (fine_no (name_count ob) (literal x y) (unmarked (marked_goal f on_yes))
+              (unmarked (marked_goal f on_no)) fine),
           asks_but_start p (literal x y) (marked_goal f to_yes) (marked_goal f to_no)
               (e ∙ ap (with_start None) marks
               ∙ ap (λ t. Ask None (literal x y) t (marked_goal f on_no)) (sym yes_alike.marked)
@@ -153,7 +159,8 @@ module _ (f : Function) where
     h.0,
     h.1,
     sym (unmarked-goal f g) ∙ ap unmarked h.2
-        ∙ ap (λ t. plain.Ask l t (unmarked (marked_goal f (goal_tree on_no.now)))) (unmarked-goal f (goal_tree on_yes.now))
+        ∙ ap (λ t. plain.Ask l t (unmarked (marked_goal f (goal_tree on_no.now))))
+        (unmarked-goal f (goal_tree on_yes.now))
         ∙ ap (λ t. plain.Ask l (ask_goal f (goal_tree on_yes.now)) t) (unmarked-goal f (goal_tree on_no.now)),
   )
   begins_plain is_own turn.Holds g h = sym (unmarked-goal f g) ∙ ap unmarked h

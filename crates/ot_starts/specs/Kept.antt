@@ -1,7 +1,7 @@
 -- What is kept of goals that were laid out where transformations begin.
 use Rattle.fn_rules.specs.Functions.{Function}
 use Rattle.ot_terms.specs.Goals.{goal_tree}
-use Rattle.marked_goals.specs.Settled.{OpensStart, StandsMarked}
+use Rattle.start_laws.specs.Settled.{OpensStart, StandsMarked}
 use Rattle.ot_starts.specs.declared.kept.Kept.{Kept}
 
 -- the goal that is kept stands for the plan of the goal where the transformation begins, but for the start at its front

@@ -9,8 +9,8 @@ use Rattle.ot_terms.specs.declared.goal.Goal.{Goal}
 use Rattle.ot_terms.specs.Goals.{GoalTree, goal_tree}
 use Rattle.ot_paths.specs.Nodes.{IsNode}
 use Rattle.start_laws.specs.Starts.{Start, compare_starts, meaning}
-use Rattle.marked_goals.specs.Marking.{marked_goal, marked_plan}
-use Rattle.marked_goals.specs.Settled.{is_settled}
+use Rattle.start_laws.specs.Marking.{marked_goal, marked_plan}
+use Rattle.start_laws.specs.Settled.{is_settled}
 
 -- the goal is of the function and the obligation, within the limits of plans; and at its front a question or an end
 -- stands, or a transformation begins

@@ -6,9 +6,9 @@ use Rattle.ot_questions.specs.declared.place.SymOp.{SymOp}
 use Rattle.ot_questions.specs.Nears.{IsNearOp, HasNearAtoms}
 use Rattle.ot_terms.specs.Goals.{GoalTree}
 use Rattle.ot_terms.specs.Weights.{goal_weight}
-use Rattle.goal_rules.specs.declared.choosing.Trial.{Trial}
-use Rattle.goal_rules.specs.Steps.{trial_tree}
-use Rattle.marked_goals.specs.Settled.{StandsMarked}
+use Rattle.ot_rewrite.specs.declared.choosing.Trial.{Trial}
+use Rattle.ot_rewrite.specs.Steps.{trial_tree}
+use Rattle.start_laws.specs.Settled.{StandsMarked}
 
 -- the case that is tried at the two operations stands for the goal, and weighs less; its offsets are small
 pub record IsTrialOf (f : Function) (old : GoalTree) (a b : SymOp) (t : Trial) : Type 0 where

@@ -9,7 +9,7 @@ use Rattle.ot_questions.specs.declared.why.Why.{Why}
 use Rattle.ot_terms.specs.declared.goal.Goal.{Goal}
 use Rattle.ot_terms.specs.Goals.{GoalTree, goal_tree}
 use Rattle.ot_paths.specs.Nodes.{IsNode}
-use Rattle.marked_goals.specs.Marking.{Marked, marked_goal, with_start}
+use Rattle.start_laws.specs.Marking.{Marked, marked_goal, with_start}
 use Rattle.ot_starts.specs.Nodes.{IsStop}
 
 -- where the goal is a node of an obligation, each plan that is its plan but for the start at the front begins as the

@@ -8,8 +8,8 @@ use Rattle.proof_trees.specs.Starts.{IsLawful}
 use Rattle.proof_trees.specs.Starters.{IsWhole}
 use Rattle.ot_questions.specs.Obligation.{plan_of}
 use Rattle.start_laws.specs.Starts.{compare_starts, meaning}
-use Rattle.marked_goals.proofs.Unmarked.{unmarked-plan}
-use Rattle.marked_goals.proofs.StartsKept.{plan_starts_kept}
+use Rattle.start_laws.proofs.Unmarked.{unmarked-plan}
+use Rattle.start_laws.proofs.StartsKept.{plan_starts_kept}
 use Rattle.ot_starts.specs.Nodes.{starts_of}
 
 pub IsWhole-starts :

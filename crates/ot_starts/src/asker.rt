@@ -11,7 +11,7 @@ ghost use Rattle.ot_terms.specs.Goals.{goal_tree};
 ghost use Rattle.ot_terms.specs.Standing.{ask_goal};
 ghost use Rattle.start_laws.specs.Begun.{IsBegunProgress, start_after};
 ghost use Rattle.start_laws.specs.Starts.{compare_starts, meaning};
-ghost use Rattle.marked_goals.specs.Marking.{marked_goal};
+ghost use Rattle.start_laws.specs.Marking.{marked_goal};
 ghost use Rattle.ot_starts.specs.Nodes.{IsStop, starts_of};
 
 use crate::begun::Begun;
@@ -21,11 +21,10 @@ use ask_core::{Asker, NoMemory, Turn};
 use bumpalo::Bump;
 use diff_graph::Lit;
 use fn_rules::{ObName, Rules};
-use marked_goals::rules_keep_starts;
 use ot_terms::{Goal, Why};
 use plain_list::List;
 use proof_trees::Starter;
-use start_laws::{StartAt, starts_have_one_value};
+use start_laws::{StartAt, rules_keep_starts, starts_have_one_value};
 use std::alloc::Global;
 
 /// What an obligation of a function asks, with a start wherever a transformation begins. Its nodes are goals in an

@@ -11,7 +11,7 @@ ghost use Rattle.ot_terms.specs.Weights.{transforms_of};
 ghost use Rattle.ot_rewrite.specs.Fronts as fronts;
 ghost use Rattle.start_laws.specs.Begun.{IsBegunProgress, start_after};
 ghost use Rattle.start_laws.specs.Starts.{compare_starts};
-ghost use Rattle.marked_goals.specs.Settled as marks;
+ghost use Rattle.start_laws.specs.Settled as marks;
 
 use ask_core::NoMemory;
 use diff_graph::Lit;

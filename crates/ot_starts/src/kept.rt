@@ -4,13 +4,13 @@ ghost use Rattle.std.specs.Prelude.{◌≡◌, [], IsTrue, IfOk, IfSome};
 ghost use Rattle.std.specs.List.{All};
 ghost use Rattle.fn_rules.specs.Functions.{Function};
 ghost use Rattle.ot_terms.specs.Goals.{goal_tree};
-ghost use Rattle.marked_goals.specs.Settled.{OpensStart, StandsMarked};
+ghost use Rattle.start_laws.specs.Settled.{OpensStart, StandsMarked};
 ghost use Rattle.ot_starts.specs.Kept.{IsKeptStart, IsKeptEnd};
 
 use crate::slots::{Slots, mark_of};
 use ask_core::NoMemory;
 use bumpalo::Bump;
-use laid_goals::is_same_progress;
+use ot_paths::is_same_progress;
 use ot_terms::{Goal, SymOp};
 
 /// The goal that is laid out where a transformation begins, or where the last result is delivered.

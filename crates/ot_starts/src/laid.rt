@@ -7,7 +7,7 @@ ghost use Rattle.ot_questions.specs.Obligation.{plan_of};
 ghost use Rattle.ot_terms.specs.Belonging.{IsGoalOf};
 ghost use Rattle.ot_terms.specs.Goals.{goal_tree};
 ghost use Rattle.ot_terms.specs.Standing.{ask_goal};
-ghost use Rattle.marked_goals.specs.Marking.{marked_goal, marked_plan};
+ghost use Rattle.start_laws.specs.Marking.{marked_goal, marked_plan};
 ghost use Rattle.ot_starts.specs.Nodes.{IsStop};
 ghost use Rattle.ot_starts.specs.Turns.{TurnsAs};
 

@@ -8,9 +8,9 @@ ghost use Rattle.ot_questions.specs.Nears.{IsNearOp, HasNearAtoms};
 ghost use Rattle.ot_terms.specs.Belonging.{IsGoalOf};
 ghost use Rattle.ot_terms.specs.Forms.{form_tree};
 ghost use Rattle.ot_terms.specs.Goals.{goal_tree, Choose, If};
-ghost use Rattle.goal_rules.specs.Steps.{trial_tree};
-ghost use Rattle.marked_goals.specs.Settled as marks;
-ghost use Rattle.marked_goals.specs.Settled.{StandsMarked};
+ghost use Rattle.ot_rewrite.specs.Steps.{trial_tree};
+ghost use Rattle.start_laws.specs.Settled as marks;
+ghost use Rattle.start_laws.specs.Settled.{StandsMarked};
 ghost use Rattle.ot_starts.specs.Kept.{IsKeptEnd};
 
 use crate::fronts::is_begun;
@@ -20,10 +20,10 @@ use crate::trying::trial;
 use ask_core::NoMemory;
 use bumpalo::Bump;
 use fn_rules::Rules;
-use goal_rules::{Front, Trial};
-use laid_goals::{by_form, by_guard};
-use marked_goals::rules_keep_starts;
+use ot_paths::{by_form, by_guard};
+use ot_rewrite::{Front, Trial};
 use ot_terms::{Form, Goal, GoalProgress, Operands, placed};
+use start_laws::rules_keep_starts;
 
 // The goal of the arena after one rule, laid out.
 #[cycle(laid)]

@@ -1,8 +1,8 @@
 //! The asker of an obligation that says where its transformations begin.
 //!
-//! A node of a `StartAsker` is a goal in an arena, as those of a `PathAsker` are. Where a transformation begins, a
-//! start is: it is told by the operations of the obligation and the results so far. So a proof with lemmas may show
-//! there what is left of the obligation, and cite it where the results are such that the starts compare.
+//! A node of a `StartAsker` is a goal in an arena, as of a `PathAsker`. Where a transformation begins there is a start,
+//! told by the obligation's operations and the results so far. So a proof with lemmas may show there what is left, and
+//! cite it at starts that compare.
 #![tactic(auto)]
 
 mod asker;

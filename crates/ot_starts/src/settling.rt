@@ -8,9 +8,9 @@ ghost use Rattle.ot_terms.specs.Belonging.{IsGoalOf};
 ghost use Rattle.ot_terms.specs.Goals.{goal_tree};
 ghost use Rattle.ot_terms.specs.Standing.{ask_goal};
 ghost use Rattle.ot_terms.specs.Weights.{goal_weight};
-ghost use Rattle.marked_goals.specs.Marking.{marked_goal, marked_plan};
-ghost use Rattle.marked_goals.specs.Settled as marks;
-ghost use Rattle.marked_goals.specs.Settled.{StandsMarked};
+ghost use Rattle.start_laws.specs.Marking.{marked_goal, marked_plan};
+ghost use Rattle.start_laws.specs.Settled as marks;
+ghost use Rattle.start_laws.specs.Settled.{StandsMarked};
 ghost use Rattle.ot_starts.specs.Nodes.{IsStop};
 
 use crate::fronts::{is_at_front, start_at};
@@ -18,10 +18,10 @@ use ask_core::NoMemory;
 use bumpalo::Bump;
 use first_goals::start_goal;
 use fn_rules::{ObName, Rules, rules_are_valid};
-use marked_goals::rules_keep_starts;
 use ot_questions::plans_keep_limits;
 use ot_rewrite::step;
 use ot_terms::{Goal, first_goals_stand_for_obligations};
+use start_laws::rules_keep_starts;
 
 // Whether the goal is one that an asker stops at.
 fn is_settled(goal: &Goal<'_>) -> bool

@@ -5,7 +5,7 @@ ghost use Rattle.fn_rules.specs.declared.function.ObName.{ObName};
 ghost use Rattle.fn_rules.specs.Rules.{function_of};
 ghost use Rattle.ot_terms.specs.Belonging.{IsGoalOf};
 ghost use Rattle.ot_terms.specs.Goals.{goal_tree};
-ghost use Rattle.marked_goals.specs.Settled.{OpensStart};
+ghost use Rattle.start_laws.specs.Settled.{OpensStart};
 ghost use Rattle.ot_starts.specs.Kept.{IsKeptStart, IsKeptEnd};
 
 use crate::fronts::is_begun;
@@ -13,9 +13,9 @@ use crate::kept::{Ends, Table, found, learnt};
 use crate::laying::laid;
 use ask_core::NoMemory;
 use fn_rules::{Rules, rules_are_valid};
-use marked_goals::rules_keep_starts;
 use ot_rewrite::{rules_keep_what_is_asked, step};
 use ot_terms::Goal;
+use start_laws::rules_keep_starts;
 
 /// How many bytes an arena may have where more is laid out.
 const ROOM: usize = 134_217_728;

@@ -4,15 +4,14 @@ ghost use Rattle.fn_rules.specs.declared.function.ObName.{ObName};
 ghost use Rattle.fn_rules.specs.Rules.{function_of};
 ghost use Rattle.ot_terms.specs.Belonging.{IsGoalOf};
 ghost use Rattle.ot_terms.specs.Goals.{Choose};
-ghost use Rattle.marked_goals.specs.Settled.{is_begun};
+ghost use Rattle.start_laws.specs.Settled.{is_begun};
 ghost use Rattle.ot_starts.specs.Trials.{IsTrialOf};
 
 use fn_rules::{Rules, rules_are_valid};
-use goal_rules::Trial;
-use laid_goals::trial as tried;
-use marked_goals::rules_keep_starts;
-use ot_rewrite::rules_keep_what_is_asked;
+use ot_paths::trial as tried;
+use ot_rewrite::{Trial, rules_keep_what_is_asked};
 use ot_terms::{GoalProgress, Operands};
+use start_laws::rules_keep_starts;
 
 /// The case that is tried next, not as the first one of a transformation; none where none is left or an operation is
 /// nop.

@@ -8,7 +8,7 @@ ghost use Rattle.ot_terms.specs.Belonging.{IsGoalOf};
 ghost use Rattle.ot_terms.specs.Forms.{form_tree};
 ghost use Rattle.ot_terms.specs.Goals.{goal_tree, If};
 ghost use Rattle.ot_rewrite.specs.Fronts as fronts;
-ghost use Rattle.goal_rules.specs.Steps.{front_tree};
+ghost use Rattle.ot_rewrite.specs.Steps.{front_tree};
 ghost use Rattle.ot_paths.specs.Nodes as nodes;
 ghost use Rattle.ot_starts.specs.Kept.{IsKeptStart, IsKeptEnd};
 ghost use Rattle.ot_starts.specs.Turns.{TurnsAs};
@@ -21,10 +21,9 @@ use ask_core::{NoMemory, Turn};
 use bumpalo::Bump;
 use diff_graph::Lit;
 use fn_rules::{Rules, rules_are_valid};
-use goal_rules::Front;
-use marked_goals::rules_keep_starts;
-use ot_rewrite::{front_of, rules_keep_what_is_asked};
+use ot_rewrite::{Front, front_of, rules_keep_what_is_asked};
 use ot_terms::{Form, Goal, Place, Why};
+use start_laws::rules_keep_starts;
 
 /// How many transformations may follow one another with nothing asked between them, and one more.
 const MOST_TRANSFORMS: u32 = 7;

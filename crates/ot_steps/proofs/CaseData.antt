@@ -1,5 +1,6 @@
 -- The value of JSON that a case is: it has no float, and nests three deep at most.
-use Rattle.std.proofs.Common.{◌≡◌, ◌≤◌, ℕ, pos, negsuc, false, List, [], ◌∷◌, map, IsUtf8, Some, refl, ap, ◌∙◌, lit≤, arith}
+use Rattle.std.proofs.Common.{◌≡◌, ◌≤◌, ℕ, pos, negsuc, false, List, [], ◌∷◌, map, IsUtf8, Some, refl, ap, ◌∙◌, lit≤}
+use Rattle.std.proofs.Common.{arith}
 use Rattle.std.proofs.lemmas.Str.{is_utf8-from_IsUtf8}
 use Rattle.case_json.specs.Json.{json_in}
 use Rattle.serde_json.specs.Read.{read}
@@ -58,12 +59,15 @@ case_shallow level d ops =
 
 -- the text that is written of a value without floats that is equal to this one
 pub text_of_data :
-    (value json : Data) (text : List ℕ) → value ≡ json → has_float json ≡ false → (has_float value ≡ false → text ≡ compact_text value)
+    (value json : Data) (text : List ℕ) → value ≡ json → has_float json ≡ false
+    → (has_float value ≡ false → text ≡ compact_text value)
     → text ≡ compact_text json
 text_of_data value json text same none is = is (rw same none) ∙ ap compact_text same
 
 -- and it is read as that value
 pub data_read :
-    (value json : Data) (text : List ℕ) → value ≡ json → depth json ≤ 127 → IsUtf8 text → (depth value ≤ 127 → read text ≡ Some value)
+    (value json : Data) (text : List ℕ) → value ≡ json → depth json ≤ 127 → IsUtf8 text
+    → (depth value ≤ 127 → read text ≡ Some value)
     → json_in text ≡ Some json
-data_read value json text same shallow utf8 is = rw (is_utf8-from_IsUtf8 text utf8) (is (rw same shallow) ∙ ap Some same)
+data_read value json text same shallow utf8 is =
+    rw (is_utf8-from_IsUtf8 text utf8) (is (rw same shallow) ∙ ap Some same)

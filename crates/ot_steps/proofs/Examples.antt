@@ -27,7 +27,8 @@ abbrev ys : ℕ → List Cell
 ys n = replicate n (live_cell 121)
 
 -- the greater site moves at a tie, by the third case
-the_last_case : taken_of sites (Ins (pos 2) 97 9) (Ins (pos 2) 98 3) ≡ Some (record { first = kinds.Ins; second = kinds.Ins; number = 2 })
+the_last_case : taken_of sites (Ins (pos 2) 97 9) (Ins (pos 2) 98 3)
+    ≡ Some (record { first = kinds.Ins; second = kinds.Ins; number = 2 })
 the_last_case = refl
 
 -- both guards of `ties` are false at a tie, and no case is asked of nop
@@ -44,7 +45,8 @@ dead_and_live_differ : difference_of (live_cell 121 ∷ []) (dead_cell (live_cel
 dead_and_live_differ = refl
 
 line_of_a_difference :
-    documents_line (Doc (live_cell 121 ∷ live_cell 97 ∷ [])) (Doc (live_cell 121 ∷ [])) ≡ line (codes "differ at 1: a, nothing")
+    documents_line (Doc (live_cell 121 ∷ live_cell 97 ∷ [])) (Doc (live_cell 121 ∷ []))
+    ≡ line (codes "differ at 1: a, nothing")
 unfolding encode digits
 line_of_a_difference = refl
 
@@ -91,13 +93,16 @@ one_end = refl
 -- the same as a case
 a_case :
     case_line Tp2 (ys 1) (Ins (pos 1) 97 1 ∷ Del (pos 0) 2 ∷ Ins (pos 0) 99 3 ∷ [])
-    ≡ line (codes "case {\"doc\":\"y\",\"ops\":[[\"ins\",1,\"a\",1],[\"del\",0,2],[\"ins\",0,\"c\",3]],\"orders\":[[0,1,2],[1,0,2]]}")
+    ≡ line
+    (codes
+    "case {\"doc\":\"y\",\"ops\":[[\"ins\",1,\"a\",1],[\"del\",0,2],[\"ins\",0,\"c\",3]],\"orders\":[[0,1,2],[1,0,2]]}")
 unfolding encode digits serde_json_on_literals
 a_case = refl
 
 -- quotes, backslashes and newlines are escaped
 escapes :
     case_line Tp1 (live_cell 10 ∷ live_cell 34 ∷ []) (Ins (pos 0) 34 1 ∷ Ins (pos 0) 92 2 ∷ [])
-    ≡ line (codes "case {\"doc\":\"\\\\n\\\"\",\"ops\":[[\"ins\",0,\"\\\"\",1],[\"ins\",0,\"\\\\\",2]],\"orders\":[[0,1],[1,0]]}")
+    ≡ line (codes
+    "case {\"doc\":\"\\\\n\\\"\",\"ops\":[[\"ins\",0,\"\\\"\",1],[\"ins\",0,\"\\\\\",2]],\"orders\":[[0,1],[1,0]]}")
 unfolding encode digits serde_json_on_literals
 escapes = refl

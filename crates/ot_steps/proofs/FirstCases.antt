@@ -1,5 +1,6 @@
 -- The case that is taken is the first whose guard is true, and the transformation comes to its result.
-use Rattle.std.proofs.Common.{◌≡◌, ◌≢◌, ℕ, zero, suc, ◌+◌, ◌<◌, true, false, List, [], ◌∷◌, slice_get, refl, ap, sym, subst, ◌∙◌, inl, inr, arith}
+use Rattle.std.proofs.Common.{◌≡◌, ◌≢◌, ℕ, zero, suc, ◌+◌, ◌<◌, true, false, List, [], ◌∷◌, slice_get, refl, ap, sym}
+use Rattle.std.proofs.Common.{subst, ◌∙◌, inl, inr, arith}
 use Rattle.std.specs.Prelude.{Option, Some, None, option_map, IfSome, IfNone}
 use Rattle.std.specs.List.{AllByRecursion}
 use Rattle.std.proofs.lemmas.Bool.{cases_Bool}
@@ -31,11 +32,13 @@ no_earlier_behind :
     (c : GuardedCase) (cs : List GuardedCase) (a b : Op) (i : ℕ) → IsFalseAt a b c
     → ((j : ℕ) (earlier : GuardedCase) → j < i → slice_get cs j ≡ Some earlier → IsFalseAt a b earlier)
     → (j : ℕ) (earlier : GuardedCase) → j < suc i → slice_get (c ∷ cs) j ≡ Some earlier → IsFalseAt a b earlier
-no_earlier_behind c cs a b i here_false rest zero earlier below there = subst (λ x. IsFalseAt a b x) (same_Some c earlier there) here_false
+no_earlier_behind c cs a b i here_false rest zero earlier below there =
+    subst (λ x. IsFalseAt a b x) (same_Some c earlier there) here_false
 no_earlier_behind c cs a b i here_false rest (suc j) earlier below there = rest j earlier (omega (arith, below)) there
 
 -- the case that is found is the first
-found_first : (cs : List GuardedCase) (a b : Op) (n m : ℕ) → first_true n cs a b ≡ Some m → (i : ℕ) × (m ≡ n + i) × IsFirst cs a b i
+found_first : (cs : List GuardedCase) (a b : Op) (n m : ℕ) → first_true n cs a b ≡ Some m
+    → (i : ℕ) × (m ≡ n + i) × IsFirst cs a b i
 found_first [] a b n m e = absurd (none-some m e)
 found_first (c ∷ cs) a b n m e =
     elim (cases_Bool (holds_of c.guard a b)) [
@@ -69,22 +72,26 @@ found_first (c ∷ cs) a b n m e =
 
 -- the first is the one that is found
 first_found :
-    (cs : List GuardedCase) (a b : Op) (n i : ℕ) (case : GuardedCase) → slice_get cs i ≡ Some case → holds_of case.guard a b ≡ true
+    (cs : List GuardedCase) (a b : Op) (n i : ℕ) (case : GuardedCase) → slice_get cs i ≡ Some case
+    → holds_of case.guard a b ≡ true
     → ((j : ℕ) (earlier : GuardedCase) → j < i → slice_get cs j ≡ Some earlier → IsFalseAt a b earlier)
     → first_true n cs a b ≡ Some (n + i)
 first_found [] a b n i case there holds no_earlier = absurd (none-some case there)
 first_found (c ∷ cs) a b n zero case there holds no_earlier =
-    let here_true : holds_of c.guard a b ≡ true = subst (λ x. holds_of x.guard a b ≡ true) (sym (same_Some c case there)) holds in
+    let here_true : holds_of c.guard a b ≡ true =
+    subst (λ x. holds_of x.guard a b ≡ true) (sym (same_Some c case there)) holds in
     let same : n ≡ n + 0 = omega arith in
     rw here_true (ap Some same)
 first_found (c ∷ cs) a b n (suc i) case there holds no_earlier =
     let here_false : IsFalseAt a b c = no_earlier 0 c (omega arith) refl in
     let same : n + 1 + i ≡ n + suc i = omega arith in
-    let later = first_found cs a b (n + 1) i case there holds (λ j earlier below at. no_earlier (suc j) earlier (omega (arith, below)) at) in
+    let later = first_found cs a b (n + 1) i case there holds
+    (λ j earlier below at. no_earlier (suc j) earlier (omega (arith, below)) at) in
     rw here_false (later ∙ ap Some same)
 
 -- where none is found, each guard is false
-none_found : (cs : List GuardedCase) (a b : Op) (n : ℕ) → first_true n cs a b ≡ None → AllByRecursion (λ c. holds_of c.guard a b ≡ false) cs
+none_found : (cs : List GuardedCase) (a b : Op) (n : ℕ) → first_true n cs a b ≡ None
+    → AllByRecursion (λ c. holds_of c.guard a b ≡ false) cs
 none_found [] a b n e = tt
 none_found (c ∷ cs) a b n e =
     elim (cases_Bool (holds_of c.guard a b)) [
@@ -93,22 +100,28 @@ none_found (c ∷ cs) a b n e =
     ]
 
 -- and where each is, none is found
-all_false_none : (cs : List GuardedCase) (a b : Op) (n : ℕ) → AllByRecursion (λ c. holds_of c.guard a b ≡ false) cs → first_true n cs a b ≡ None
+all_false_none : (cs : List GuardedCase) (a b : Op) (n : ℕ) → AllByRecursion (λ c. holds_of c.guard a b ≡ false) cs
+    → first_true n cs a b ≡ None
 all_false_none [] a b n h = refl
-all_false_none (c ∷ cs) a b n h = let here_false : IsFalseAt a b c = h.0 in rw here_false (all_false_none cs a b (n + 1) h.1)
+all_false_none (c ∷ cs) a b n h = let here_false : IsFalseAt a b c = h.0 in
+    rw here_false (all_false_none cs a b (n + 1) h.1)
 
 -- there is no result exactly where each guard is false
-no_result : (cs : List GuardedCase) (a b : Op) → first_result cs a b ≡ None → AllByRecursion (λ c. holds_of c.guard a b ≡ false) cs
+no_result : (cs : List GuardedCase) (a b : Op) → first_result cs a b ≡ None
+    → AllByRecursion (λ c. holds_of c.guard a b ≡ false) cs
 no_result [] a b e = tt
 no_result (c ∷ cs) a b e =
     elim (cases_Bool (holds_of c.guard a b)) [
-      | inl here_true ↦ let here : Some (result_of c.res a b) ≡ None = rw here_true at e in absurd (none-some (result_of c.res a b) (sym here))
+      | inl here_true ↦ let here : Some (result_of c.res a b) ≡ None = rw here_true at e in
+          absurd (none-some (result_of c.res a b) (sym here))
       | inr here_false ↦ (here_false, no_result cs a b (rw here_false at e))
     ]
 
-all_false_no_result : (cs : List GuardedCase) (a b : Op) → AllByRecursion (λ c. holds_of c.guard a b ≡ false) cs → first_result cs a b ≡ None
+all_false_no_result : (cs : List GuardedCase) (a b : Op) → AllByRecursion (λ c. holds_of c.guard a b ≡ false) cs
+    → first_result cs a b ≡ None
 all_false_no_result [] a b h = refl
-all_false_no_result (c ∷ cs) a b h = let here_false : IsFalseAt a b c = h.0 in rw here_false (all_false_no_result cs a b h.1)
+all_false_no_result (c ∷ cs) a b h = let here_false : IsFalseAt a b c = h.0 in
+    rw here_false (all_false_no_result cs a b h.1)
 
 -- a case that is named by its kinds and its number
 abbrev named : Kind → Kind → ℕ → Taken
@@ -116,7 +129,8 @@ named k l n = record { first = k; second = l; number = n }
 
 module _ (f : Function) (a b : Op) where
   -- the first case of the block is taken
-  taken_first : (k l : Kind) (n : ℕ) → kind_of a ≡ Some k → kind_of b ≡ Some l → IsFirst (cases_of f k l) a b n → IsTaken f a b (named k l n)
+  taken_first : (k l : Kind) (n : ℕ) → kind_of a ≡ Some k → kind_of b ≡ Some l → IsFirst (cases_of f k l) a b n
+      → IsTaken f a b (named k l n)
   taken_first k l n p q first = record {
     first = p;
     second = q;
@@ -138,7 +152,8 @@ module _ (f : Function) (a b : Op) where
       subst (λ x. IsTaken f a b x) (same_Some (named k l m) t e)
       (taken_first k l m p q (subst (λ n. IsFirst (cases_of f k l) a b n) same first.2))
 
-  taken_kinds : (t : Taken) (k l : Option Kind) → kind_of a ≡ k → kind_of b ≡ l → taken_by_kinds f a b k l ≡ Some t → IsTaken f a b t
+  taken_kinds : (t : Taken) (k l : Option Kind) → kind_of a ≡ k → kind_of b ≡ l
+      → taken_by_kinds f a b k l ≡ Some t → IsTaken f a b t
   taken_kinds t None l p q e = absurd (none-some t e)
   taken_kinds t (Some k) None p q e = absurd (none-some t e)
   taken_kinds t (Some k) (Some l) p q e = taken_at k l t (first_true 0 (cases_of f k l) a b) p q refl e
@@ -155,7 +170,8 @@ module _ (f : Function) (a b : Op) where
       let here : first_true 0 (cases_of f t.first t.second) a b ≡ Some t.number = found ∙ ap Some same in
       rw h.first (rw h.second (rw here refl))
 
-  none_by_kinds : (k l : Kind) (found : Option ℕ) → first_true 0 (cases_of f k l) a b ≡ found → option_map (λ n. named k l n) found ≡ None
+  none_by_kinds : (k l : Kind) (found : Option ℕ) → first_true 0 (cases_of f k l) a b ≡ found
+      → option_map (λ n. named k l n) found ≡ None
       → AllByRecursion (λ c. holds_of c.guard a b ≡ false) (cases_of f k l)
   none_by_kinds k l None is e = none_found (cases_of f k l) a b 0 is
   none_by_kinds k l (Some n) is e = absurd (none-some (named k l n) (sym e))
@@ -166,7 +182,8 @@ module _ (f : Function) (a b : Op) where
       let here : option_map (λ n. named k l n) (first_true 0 (cases_of f k l) a b) ≡ None = rw q at (rw p at e) in
       none_by_kinds k l (first_true 0 (cases_of f k l) a b) refl here
 
-  untaken_kinds : (k l : Option Kind) → kind_of a ≡ k → kind_of b ≡ l → AreAllFalse f a b → taken_by_kinds f a b k l ≡ None
+  untaken_kinds : (k l : Option Kind) → kind_of a ≡ k → kind_of b ≡ l → AreAllFalse f a b
+      → taken_by_kinds f a b k l ≡ None
   untaken_kinds None l p q h = refl
   untaken_kinds (Some k) None p q h = refl
   untaken_kinds (Some k) (Some l) p q h = rw (all_false_none (cases_of f k l) a b 0 (h k l p q)) refl
@@ -193,8 +210,10 @@ module _ (f : Function) (a b : Op) where
       let each = no_result (cases_of f none.0 none.1) a b none.4 in (
         (acts a none.0 none.2, acts b none.1 none.3),
         λ k l p q.
-            subst (λ x. AllByRecursion (λ c. holds_of c.guard a b ≡ false) (cases_of f k x)) (same_Some none.1 l (sym none.3 ∙ q))
-            (subst (λ x. AllByRecursion (λ c. holds_of c.guard a b ≡ false) (cases_of f x none.1)) (same_Some none.0 k (sym none.2 ∙ p)) each),
+            subst (λ x. AllByRecursion (λ c. holds_of c.guard a b ≡ false) (cases_of f k x))
+            (same_Some none.1 l (sym none.3 ∙ q))
+            (subst (λ x. AllByRecursion (λ c. holds_of c.guard a b ≡ false) (cases_of f x none.1))
+            (same_Some none.0 k (sym none.2 ∙ p)) each),
       )
 
 -- an operation that is not nop has a kind
@@ -208,13 +227,16 @@ pub all_false_undefined : (f : Function) (a b : Op) → BothAct a b × AreAllFal
 all_false_undefined f a b h =
     let first = kind_there a h.0.0 in
     let second = kind_there b h.0.1 in
-    rw first.1 (rw second.1 (all_false_no_result (cases_of f first.0 second.0) a b (h.1 first.0 second.0 first.1 second.1)))
+    rw first.1
+    (rw second.1 (all_false_no_result (cases_of f first.0 second.0) a b (h.1 first.0 second.0 first.1 second.1)))
 
 -- what is told of a case that is taken
-pub told_some : (f : Function) (a b : Op) (result : Option Taken) → result ≡ taken_of f a b → IfSome result (IsTaken f a b)
+pub told_some : (f : Function) (a b : Op) (result : Option Taken) → result ≡ taken_of f a b
+    → IfSome result (IsTaken f a b)
 told_some f a b None e = tt
 told_some f a b (Some t) e = taken_is f a b t (sym e)
 
-pub told_none : (f : Function) (a b : Op) (result : Option Taken) → result ≡ taken_of f a b → IfNone result (AreAllFalse f a b)
+pub told_none : (f : Function) (a b : Op) (result : Option Taken) → result ≡ taken_of f a b
+    → IfNone result (AreAllFalse f a b)
 told_none f a b None e = none_taken f a b (sym e)
 told_none f a b (Some t) e = tt

@@ -1,5 +1,6 @@
 -- Documents that differ at no place are one.
-use Rattle.std.proofs.Common.{◌≡◌, ◌≤◌, ◌<◌, ℕ, ◌+◌, Bool, true, false, List, [], ◌∷◌, nat_eq, length, drop, refl, ap, ap₂, sym, inl, inr, eqb-true, eq-eqb, arith}
+use Rattle.std.proofs.Common.{◌≡◌, ◌≤◌, ◌<◌, ℕ, ◌+◌, Bool, true, false, List, [], ◌∷◌, nat_eq, length, drop, refl, ap}
+use Rattle.std.proofs.Common.{ap₂, sym, inl, inr, eqb-true, eq-eqb, arith}
 use Rattle.std.proofs.lemmas.List.{drop_all, drop_more}
 use Rattle.std.specs.Prelude.{Some, None}
 use Rattle.std.proofs.lemmas.Bool.{cases_Bool, and_parts, and_from, false≢true}
@@ -31,7 +32,8 @@ no_difference [] (e ∷ es) i h = absurd (none-some i (sym h))
 no_difference (c ∷ cs) [] i h = absurd (none-some i (sym h))
 no_difference (c ∷ cs) (e ∷ es) i h =
     elim (cases_Bool (is_same_cell c e)) [
-      | inl same ↦ ap₂ (λ (x : Cell) (xs : List Cell). x ∷ xs) (same_cells c e same) (no_difference cs es (i + 1) (rw same at h))
+      | inl same ↦
+          ap₂ (λ (x : Cell) (xs : List Cell). x ∷ xs) (same_cells c e same) (no_difference cs es (i + 1) (rw same at h))
       | inr other ↦ let here : Some i ≡ None = rw other at h in absurd (none-some i (sym here))
     ]
 
@@ -46,7 +48,8 @@ pub none_where_one : (left right : List Cell) → left ≡ right → difference_
 none_where_one left right same = rw same (differs_not right 0)
 
 -- where the right one has ended
-pub difference_past : (left right : List Cell) (i : ℕ) → i < length left → length right ≤ i → difference_from i (drop i left) (drop i right) ≡ Some i
+pub difference_past : (left right : List Cell) (i : ℕ) → i < length left → length right ≤ i
+    → difference_from i (drop i left) (drop i right) ≡ Some i
 difference_past [] right i below past = absurd (omega (arith, below))
 difference_past (c ∷ cs) right i below past = rw (drop_more (c ∷ cs) i c below, drop_all i right past) refl
 

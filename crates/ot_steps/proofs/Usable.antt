@@ -24,7 +24,8 @@ abbrev pub IsWider : Type 0
 IsWider = (m n : ℕ) (o : Op) → m ≤ n → IsWithin m o → IsWithin n o
 
 abbrev pub StaysNear : Type 0
-StaysNear = (f : Function) (a b c : Op) (m : ℕ) → IsTrue (is_valid f) → IsWithin m a → IsWithin m b → transform_of f a b ≡ Some c
+StaysNear = (f : Function) (a b c : Op) (m : ℕ) → IsTrue (is_valid f) → IsWithin m a → IsWithin m b
+    → transform_of f a b ≡ Some c
     → IsWithin (m + 99) c
 
 -- the operation may be transformed
@@ -34,7 +35,8 @@ IsUsable f o = IsForKind f.head (kind_of o) × IsInRange o
 -- what becomes of an operation on a document of a million cells may be transformed again
 pub result_is_usable :
     IsWider → StaysNear → (f : Function) → KeepsForms f → IsTrue (is_valid f) → (a b : Op) (result : Option Op)
-    → IsForKind f.head (kind_of a) → IsWithin 1000000 a → IsWithin 1000000 b → result ≡ transform_of f a b → IfSome result (IsUsable f)
+    → IsForKind f.head (kind_of a) → IsWithin 1000000 a → IsWithin 1000000 b → result ≡ transform_of f a b
+    → IfSome result (IsUsable f)
 result_is_usable wider stays f keeps valid a b None declared near_a near_b e = tt
 result_is_usable wider stays f keeps valid a b (Some o) declared near_a near_b e = (
   keeps.declared a b o (sym e) declared,
@@ -46,10 +48,12 @@ pub concurrent_integrable : (f : Function) → KeepsForms f → (d : List Cell) 
     → All (IsIntegrable f (length d)) ops
 concurrent_integrable f keeps d [] h = All-nil (IsIntegrable f (length d))
 concurrent_integrable f keeps d (o ∷ os) h =
-    All-cons (IsIntegrable f (length d)) o os (record { declared = keeps.made o h.0; enabled = h.1 }) (concurrent_integrable f keeps d os h.3)
+    All-cons (IsIntegrable f (length d)) o os (record { declared = keeps.made o h.0; enabled = h.1 })
+    (concurrent_integrable f keeps d os h.3)
 
 -- what breaks a property is concurrent
-pub concurrent_where_broken : (f : Function) (level : Level) (d : List Cell) (ops : List Op) → Breaks f level d ops → AreConcurrent f d ops
+pub concurrent_where_broken : (f : Function) (level : Level) (d : List Cell) (ops : List Op)
+    → Breaks f level d ops → AreConcurrent f d ops
 concurrent_where_broken f Tp1 d ops h = h.3
 concurrent_where_broken f Tp2 d ops h = h.4
 
@@ -58,7 +62,8 @@ IsNear = (n : ℕ) (o : Op) → IsEnabled o n → IsWithin n o
 
 -- an operation of those that may be integrated is of the function's kinds, and near
 pub usable_at :
-    IsWider → IsNear → (f : Function) (n : ℕ) (ops : List Op) (i : ℕ) (x : Op) → All (IsIntegrable f n) ops → i < length ops → n ≤ 1000000
+    IsWider → IsNear → (f : Function) (n : ℕ) (ops : List Op) (i : ℕ) (x : Op) → All (IsIntegrable f n) ops
+    → i < length ops → n ≤ 1000000
     → IsForKind f.head (kind_of (get_or ops i x)) × IsWithin 1000000 (get_or ops i x)
 usable_at wider near f n ops i x all below few =
     let here = All-get_or (IsIntegrable f n) ops i x below all in
@@ -68,7 +73,8 @@ usable_at wider near f n ops i x all below few =
 pub three_told :
     (f : Function) (d : List Cell) (ops : List Op) (x : Op) (left right : OperationWay) (one : Option (List Cell))
     → left ≡ operation_way_of f (get_or ops 0 x) (get_or ops 1 x) (get_or ops 2 x)
-    → right ≡ operation_way_of f (get_or ops 1 x) (get_or ops 0 x) (get_or ops 2 x) → one ≡ one_end_of f d ops → 3 ≤ length ops
+    → right ≡ operation_way_of f (get_or ops 1 x) (get_or ops 0 x) (get_or ops 2 x)
+    → one ≡ one_end_of f d ops → 3 ≤ length ops
     → length ops < 4 → Some (Triple left right one) ≡ both_ways_of f Tp2 d ops
 three_told f d [] x left right one p q r low high = absurd (omega (arith, low))
 three_told f d (a ∷ []) x left right one p q r low high = absurd (omega (arith, low))

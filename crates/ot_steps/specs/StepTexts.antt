@@ -82,17 +82,20 @@ way_line text = codes "  " ++ text ++ 10 ∷ []
 -- the line of a transformation
 abbrev pub step_line : Function → Label → Step → List ℕ
 step_line f label s =
-    way_line (padded LABEL (label_text label) ++ padded OPERATION (result_text s.result) ++ choice_text f s.result s.taken)
+    way_line (padded LABEL (label_text label) ++ padded OPERATION (result_text s.result)
+    ++ choice_text f s.result s.taken)
 
 -- the line of an operation that is executed as it was made
 abbrev pub made_line : Label → Op → List Cell → List ℕ
 made_line label o d =
-    way_line (padded LABEL (label_text label) ++ padded OPERATION (short_op o) ++ short_document (unsigned_abs (at_of o)) d)
+    way_line (padded LABEL (label_text label) ++ padded OPERATION (short_op o)
+    ++ short_document (unsigned_abs (at_of o)) d)
 
 -- the line of an operation that is transformed and executed
 abbrev pub executed_line : Function → Label → Step → WayResult → List ℕ
 executed_line f label s end =
-    way_line (padded LABEL (label_text label) ++ padded OPERATION (result_text s.result) ++ padded DOCUMENT (end_text s.result end)
+    way_line (padded LABEL (label_text label) ++ padded OPERATION (result_text s.result)
+    ++ padded DOCUMENT (end_text s.result end)
     ++ choice_text f s.result s.taken)
 
 -- the operation `n` and then the operation `m`
@@ -150,7 +153,8 @@ side_line side = side ++ 10 ∷ []
 -- both ways, and where they differ
 abbrev pub ways_text : Function → BothWays → List ℕ
 ways_text f (Pair left right) =
-    side_line (codes "left") ++ document_way_text f 1 2 left ++ side_line (codes "right") ++ document_way_text f 2 1 right
+    side_line (codes "left") ++ document_way_text f 1 2 left ++ side_line (codes "right")
+    ++ document_way_text f 2 1 right
     ++ documents_line left.end right.end
 ways_text f (Triple left right one_end) =
     side_line (codes "left") ++ operation_way_text f 1 2 left ++ side_line (codes "right")

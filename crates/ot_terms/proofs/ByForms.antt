@@ -6,7 +6,8 @@ use Rattle.ot_terms.specs.Forms.{FormTree, True, Le, Lt, Eq, And, Or, Not, by_fo
 
 -- a reading of ends goes through what is asked for two places of different variables, and so through orders and forms
 module _ {A B : Type 0} (ask : Place → Place → A → A → A) (asks : Place → Place → B → B → B) (reading : A → B)
-    (through : (x y : Place) (p q : A) → nat_eq x.var y.var ≡ false → reading (ask x y p q) ≡ asks x y (reading p) (reading q))
+    (through : (x y : Place) (p q : A) → nat_eq x.var y.var ≡ false
+    → reading (ask x y p q) ≡ asks x y (reading p) (reading q))
   where
     by_tests :
         (x y : Place) (p q : A) (b c : Bool) → nat_eq x.var y.var ≡ b
@@ -16,7 +17,8 @@ module _ {A B : Type 0} (ask : Place → Place → A → A → A) (asks : Place 
     by_tests x y p q true false e = refl
     by_tests x y p q false c e = through x y p q e
 
-    pub order_through : (x y : Place) (p q : A) → reading (by_order ask x y p q) ≡ by_order asks x y (reading p) (reading q)
+    pub order_through : (x y : Place) (p q : A)
+        → reading (by_order ask x y p q) ≡ by_order asks x y (reading p) (reading q)
     order_through x y p q = by_tests x y p q (nat_eq x.var y.var) (int_le x.off y.off) refl
 
     -- what a form leaves of ends is read as what it leaves of the ends that are read

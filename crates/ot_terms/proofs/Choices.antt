@@ -17,18 +17,21 @@ test_holds true why = (λ e. refl, λ n. refl)
 test_holds false why = (λ e. absurd (false≢true e), λ n. absurd (cc))
 
 -- a test that is to be true before the rest
-pub required : (t : Bool) (X : Type 0) (s : Option Why) (why : Why) → X ↔ (s ≡ None) → (IsTrue t × X) ↔ ((if t then s else Some why) ≡ None)
+pub required : (t : Bool) (X : Type 0) (s : Option Why) (why : Why) → X ↔ (s ≡ None)
+    → (IsTrue t × X) ↔ ((if t then s else Some why) ≡ None)
 required true X s why h = (λ x. h.0 x.1, λ n. (refl, h.1 n))
 required false X s why h = (λ x. absurd (false≢true x.0), λ n. absurd (cc))
 
 -- a test where it is true the rest is to be
-pub supposed : (t : Bool) (X : Type 0) (s : Option Why) → X ↔ (s ≡ None) → (IsTrue t → X) ↔ ((if t then s else None) ≡ None)
+pub supposed : (t : Bool) (X : Type 0) (s : Option Why) → X ↔ (s ≡ None)
+    → (IsTrue t → X) ↔ ((if t then s else None) ≡ None)
 supposed true X s h = (λ x. h.0 (x refl), λ n e. h.1 n)
 supposed false X s h = (λ x. refl, λ n e. absurd (false≢true e))
 
 -- one of two goals
 pub by_test_holds :
-    (t : Bool) (X Y : Type 0) (s u : Option Why) → X ↔ (s ≡ None) → Y ↔ (u ≡ None) → MatchBool t X Y ↔ ((if t then s else u) ≡ None)
+    (t : Bool) (X Y : Type 0) (s u : Option Why) → X ↔ (s ≡ None) → Y ↔ (u ≡ None)
+    → MatchBool t X Y ↔ ((if t then s else u) ≡ None)
 by_test_holds true X Y s u h k = h
 by_test_holds false X Y s u h k = k
 

@@ -1,6 +1,7 @@
 -- Two cells are found the same at a valuation exactly where they are the same for every base document: where
 -- they are not, one document tells them apart.
-use Rattle.std.proofs.Common.{◌≡◌, ◌↔◌, ℕ, ℤ, pos, ◌+ℤ◌, Bool, true, false, if◌then◌else◌, [], ◌∷◌, None, refl, ap, sym, ◌∙◌, arith}
+use Rattle.std.proofs.Common.{◌≡◌, ◌↔◌, ℕ, ℤ, pos, ◌+ℤ◌, Bool, true, false, if◌then◌else◌, [], ◌∷◌, None, refl, ap, sym}
+use Rattle.std.proofs.Common.{◌∙◌, arith}
 use Rattle.std.proofs.lemmas.Int.{ints}
 use Rattle.std.proofs.lemmas.Bool.{false≢true}
 use Rattle.std.specs.Ordering.{int_eq}
@@ -100,7 +101,8 @@ module _ (v : ℕ → ℤ) where
   flags_equal Dead (From off) e base = absurd (false≢true e)
   flags_equal (From off) Live e base = absurd (false≢true e)
   flags_equal (From off) Dead e base = absurd (false≢true e)
-  flags_equal (From off) (From other) e base = ap (λ j. (base_cell_at base j).live) (int_eq-shifted_back (v 2) off other e)
+  flags_equal (From off) (From other) e base =
+      ap (λ j. (base_cell_at base j).live) (int_eq-shifted_back (v 2) off other e)
 
   -- characters that are the same for every base document are found the same
   sources_found :
@@ -112,8 +114,10 @@ module _ (v : ℕ → ℤ) where
       (int_eq-shifted (v 2) off there
       (alone_by_char (int_eq (v 2 +ℤ off) (v 2 +ℤ off)) (int_eq (v 2 +ℤ off) (v 2 +ℤ there)) (int_eq-same (v 2 +ℤ off))
       (h (alone_at (v 2 +ℤ off)))))
-  sources_found (Base off) (Named d) why h = absurd (false≢true (next_differs (v d) (h (everywhere (v d +ℤ pos 1) true))))
-  sources_found (Named c) (Base off) why h = absurd (false≢true (next_differs (v c) (sym (h (everywhere (v c +ℤ pos 1) true)))))
+  sources_found (Base off) (Named d) why h =
+      absurd (false≢true (next_differs (v d) (h (everywhere (v d +ℤ pos 1) true))))
+  sources_found (Named c) (Base off) why h =
+      absurd (false≢true (next_differs (v c) (sym (h (everywhere (v c +ℤ pos 1) true)))))
   sources_found (Named c) (Named d) why h =
       let same = int_eq (v c +ℤ pos 0) (v d +ℤ pos 0) in
       end-eq (place c (pos 0)) (place d (pos 0)) Holds (Fails why) v
@@ -126,7 +130,8 @@ module _ (v : ℕ → ℤ) where
       → (base : BaseDocument) → source_at base v s ≡ source_at base v t
   unfolding ask_same_source
   sources_equal (Base off) (Base there) why e base =
-      ap (λ j. (base_cell_at base j).ch) (int_eq-shifted_back (v 2) off there (test_of_end (int_eq off there) Holds why v e).0)
+      ap (λ j. (base_cell_at base j).ch)
+      (int_eq-shifted_back (v 2) off there (test_of_end (int_eq off there) Holds why v e).0)
   sources_equal (Base off) (Named d) why e base = absurd (cc)
   sources_equal (Named c) (Base off) why e base = absurd (cc)
   sources_equal (Named c) (Named d) why e base =
@@ -140,8 +145,8 @@ module _ (v : ℕ → ℤ) where
       → end_of (ask_same x y) v ≡ None
   unfolding ask_same
   found_where_same x y h =
-      if_true (is_same_flag x.flag y.flag) (ask_same_source x.source y.source (Fails (cells_cause x y))) (Fails (cells_cause x y)) v
-      (flags_found x.flag y.flag (λ base. ap (λ cell. cell.live) (h base)))
+      if_true (is_same_flag x.flag y.flag) (ask_same_source x.source y.source (Fails (cells_cause x y)))
+      (Fails (cells_cause x y)) v (flags_found x.flag y.flag (λ base. ap (λ cell. cell.live) (h base)))
       ∙ sources_found x.source y.source (cells_cause x y) (λ base. ap (λ cell. cell.ch) (h base))
 
   pub same_where_found :
@@ -150,14 +155,16 @@ module _ (v : ℕ → ℤ) where
   unfolding ask_same
   same_where_found x y e base =
       let cause = cells_cause x y in
-      let tested = test_of_end (is_same_flag x.flag y.flag) (ask_same_source x.source y.source (Fails cause)) cause v e in
+      let tested = test_of_end (is_same_flag x.flag y.flag)
+      (ask_same_source x.source y.source (Fails cause)) cause v e in
       ap (λ c. numbered c (flag_at base v x.flag)) (sources_equal x.source y.source (cells_cause x y) tested.1 base)
       ∙ ap (numbered (source_at base v y.source)) (flags_equal x.flag y.flag tested.0 base)
 
   -- of two cells of the mode
   end-compared :
       (f : Function) (left right : CellTree)
-      → end_of (ask_goal f (goals.Same left right)) v ≡ end_of (ask_same (read_of v f.head.mode left) (read_of v f.head.mode right)) v
+      → end_of (ask_goal f (goals.Same left right)) v
+      ≡ end_of (ask_same (read_of v f.head.mode left) (read_of v f.head.mode right)) v
   unfolding ask_goal
   end-compared f left right =
       end-read f.head.mode left (λ x. ask_read f.head.mode right (λ y. ask_same x y)) v
@@ -167,14 +174,17 @@ module _ (v : ℕ → ℤ) where
   pub compared_over_all :
       (f : Function) (count : ℕ) (left right : CellTree)
       → IsCellOf f.head.mode count left → IsCellOf f.head.mode count right
-      → (end_of (ask_goal f (goals.Same left right)) v ≡ None) ↔ ((base : BaseDocument) → cell_of base v left ≡ cell_of base v right)
+      → (end_of (ask_goal f (goals.Same left right)) v ≡ None) ↔ ((base : BaseDocument)
+      → cell_of base v left ≡ cell_of base v right)
   compared_over_all f count left right hl hr = (
     (λ e base.
         read_cell base v f.head.mode count left hl
-        ∙ (same_where_found (read_of v f.head.mode left) (read_of v f.head.mode right) (sym (end-compared f left right) ∙ e) base
+        ∙ (same_where_found (read_of v f.head.mode left) (read_of v f.head.mode right)
+        (sym (end-compared f left right) ∙ e) base
         ∙ sym (read_cell base v f.head.mode count right hr))),
     (λ h.
         end-compared f left right
         ∙ found_where_same (read_of v f.head.mode left) (read_of v f.head.mode right)
-        (λ base. sym (read_cell base v f.head.mode count left hl) ∙ (h base ∙ read_cell base v f.head.mode count right hr))),
+        (λ base. sym (read_cell base v f.head.mode count left hl)
+        ∙ (h base ∙ read_cell base v f.head.mode count right hr))),
   )

@@ -16,7 +16,8 @@ use Rattle.ot_questions.specs.declared.why.Why.TheVariants.{Undefined}
 use Rattle.ot_questions.specs.Nexts.{next_after}
 use Rattle.ot_questions.specs.Obligation.{ask_converge, ask_ways, ask_lengths, ask_documents}
 use Rattle.ot_questions.specs.Places.{place, index_and, sym_op}
-use Rattle.ot_questions.specs.Questions.{ask_le, ask_lt, ask_eq, ask_compared, ask_atom, ask_guard, ask_transform, ask_enabled}
+use Rattle.ot_questions.specs.Questions.{ask_le, ask_lt, ask_eq, ask_compared, ask_atom, ask_guard, ask_transform}
+use Rattle.ot_questions.specs.Questions.{ask_enabled}
 use Rattle.ot_questions.specs.Reading.{ask_cell, ask_same, ask_same_source}
 use Rattle.ot_terms.specs.Forms.{FormTree, form_holds}
 use Rattle.ot_terms.specs.declared.goal.GoalProgress.{GoalProgress}
@@ -65,7 +66,8 @@ placed_asks : asked_along (ask_form placed_guard plans.Holds (plans.Fails Undefi
 unfolding ask_form ask_le
 placed_asks = refl
 
-placed_fails_at_yes : next_after (ask_form placed_guard plans.Holds (plans.Fails Undefined)) (true ∷ []) ≡ Fails Undefined
+placed_fails_at_yes : next_after (ask_form placed_guard plans.Holds (plans.Fails Undefined))
+    (true ∷ []) ≡ Fails Undefined
 unfolding ask_form ask_le
 placed_fails_at_yes = refl
 
@@ -83,7 +85,8 @@ second_case = refl
 
 -- an insertion of the character 8 at name 6, of a document in which the cell at name 3 was made dead
 abbrev read_through : CellTree
-read_through = cells.At (documents.Put (documents.Mark documents.Base (place 3 (pos 0))) (place 6 (pos 0)) 8) (index_and (pos 0))
+read_through =
+    cells.At (documents.Put (documents.Mark documents.Base (place 3 (pos 0))) (place 6 (pos 0)) 8) (index_and (pos 0))
 
 -- behind the insertion the index is lower by one
 read_behind : asked_along (ask_read Tomb read_through (λ x. plans.Holds)) (false ∷ false ∷ true ∷ [])
@@ -92,7 +95,8 @@ unfolding ask_read ask_cell ask_lt ask_le
 read_behind = refl
 
 -- making dead what was written over still reads what lies below
-dead_over_reads : next_after (ask_read Tomb (cells.Dead (cells.Over 5 read_through)) (λ x. plans.Holds)) [] ≡ Asked (lit 2 6 (negsuc 0))
+dead_over_reads : next_after (ask_read Tomb (cells.Dead (cells.Over 5 read_through)) (λ x. plans.Holds)) []
+    ≡ Asked (lit 2 6 (negsuc 0))
 unfolding ask_read ask_cell ask_lt ask_le
 dead_over_reads = refl
 
@@ -113,7 +117,8 @@ written_over = refl
 
 -- one step of reading makes a cell lighter
 reading_falls : cell_weight (cells.If before (cells.At documents.Base (index_and (pos 0)))
-    (cells.If at_most (cells.Dead (cells.At documents.Base (index_and (pos 0)))) (cells.At documents.Base (index_and (pos 0)))))
+    (cells.If at_most (cells.Dead (cells.At documents.Base (index_and (pos 0))))
+    (cells.At documents.Base (index_and (pos 0)))))
     < cell_weight (cells.At (documents.Mark documents.Base (place 3 (pos 0))) (index_and (pos 0)))
 reading_falls = lit≤ tt
 
@@ -127,15 +132,17 @@ second_falls : goal_weight marks (goals.Choose 0 (sym_op kinds.Del A) (sym_op ki
 second_falls = lit≤ tt
 
 abbrev twice_dead : CellTree
-twice_dead = cells.At (documents.Mark (documents.Mark documents.Base (place 3 (pos 0))) (place 6 (pos 0))) (index_and (pos 0))
+twice_dead =
+    cells.At (documents.Mark (documents.Mark documents.Base (place 3 (pos 0))) (place 6 (pos 0))) (index_and (pos 0))
 
-comparison_falls : goal_weight marks (goals.Same twice_dead twice_dead) < goal_weight marks (goals.Deliver (sym_op kinds.Del A) (two_deletions 1))
+comparison_falls : goal_weight marks (goals.Same twice_dead twice_dead)
+    < goal_weight marks (goals.Deliver (sym_op kinds.Del A) (two_deletions 1))
 comparison_falls = lit≤ tt
 
 -- two deletions: the questions of the first goal
 marks_begin : asked_along (ask_goal marks (start_goal_of marks.head (Pair kinds.Del kinds.Del))) (yes_times 11)
     ≡ lit 0 1 (pos 0) ∷ lit 0 3 (pos 0) ∷ lit 3 1 (negsuc 0) ∷ lit 0 6 (pos 0) ∷ lit 6 1 (negsuc 0) ∷ lit 0 6 (pos 0)
     ∷ lit 6 1 (negsuc 0) ∷ lit 0 3 (pos 0) ∷ lit 3 1 (negsuc 0) ∷ lit 0 2 (pos 0) ∷ lit 2 1 (negsuc 0) ∷ []
-unfolding ask_goal ask_form ask_after ask_pair_after ask_converge ask_ways ask_lengths ask_documents ask_le ask_lt ask_eq ask_compared
-    ask_atom ask_guard ask_transform ask_enabled ask_cell ask_same ask_same_source
+unfolding ask_goal ask_form ask_after ask_pair_after ask_converge ask_ways ask_lengths ask_documents ask_le ask_lt
+    ask_eq ask_compared ask_atom ask_guard ask_transform ask_enabled ask_cell ask_same ask_same_source
 marks_begin = refl

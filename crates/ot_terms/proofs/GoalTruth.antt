@@ -32,8 +32,8 @@ module _ (f : Function) (v : ℕ → ℤ) where
       subst (λ x. HoldsAfter 2 f v (Pair k l) x got ↔ (end_of (ask_after f (Pair k l) x got) v ≡ None)) (sym made.2)
       (pair_after v f k l made.0 made.1 (Nop ∷ []) got)
   after_holds (Triple k l m) os got made =
-      subst (λ x. HoldsAfter 6 f v (Triple k l m) x got ↔ (end_of (ask_after f (Triple k l m) x got) v ≡ None)) (sym made.3)
-      (triple_after v f k l m made.0 made.1 made.2 [] got)
+      subst (λ x. HoldsAfter 6 f v (Triple k l m) x got ↔ (end_of (ask_after f (Triple k l m) x got) v ≡ None))
+      (sym made.3) (triple_after v f k l m made.0 made.1 made.2 [] got)
 
   with_holds :
       (ob : ObName) (progress : GoalProgress) (r : SymOp) → IsProgressOf ob progress
@@ -51,18 +51,21 @@ module _ (f : Function) (v : ℕ → ℤ) where
       along _ _ _ (end_form g (ask_goal f on_yes) (ask_goal f on_no) v)
       (by_test_holds (form_holds v g) _ _ _ _ (parts_hold ob on_yes h.1) (parts_hold ob on_no h.2))
   parts_hold ob (goals.Choose case a b progress) h =
-      result_holds v a b f case (HoldsWith f v progress) (ask_with f progress) (λ r. with_holds ob progress r h.progress)
+      result_holds v a b f case (HoldsWith f v progress) (ask_with f progress)
+      (λ r. with_holds ob progress r h.progress)
   parts_hold ob (goals.Deliver o progress) h = with_holds ob progress o h.0
   parts_hold ob (goals.Same left right) h =
       let compared = compared_over_all v f (name_count ob) left right h.0 h.1 in
       (compared.1, compared.0)
 
 pub goal_holds_ends :
-    (f : Function) (ob : ObName) (g : GoalTree) (v : ℕ → ℤ) → IsGoalOf f ob g → goal_holds f v g ↔ (end_of (ask_goal f g) v ≡ None)
+    (f : Function) (ob : ObName) (g : GoalTree) (v : ℕ → ℤ) → IsGoalOf f ob g
+    → goal_holds f v g ↔ (end_of (ask_goal f g) v ≡ None)
 goal_holds_ends f ob g v h = parts_hold f v ob g h.parts
 
 pub goal_holds_value :
-    (f : Function) (ob : ObName) (g : GoalTree) (v : ℕ → ℤ) → IsGoalOf f ob g → goal_holds f v g ↔ IsTrue (value (ask_goal f g) v)
+    (f : Function) (ob : ObName) (g : GoalTree) (v : ℕ → ℤ) → IsGoalOf f ob g
+    → goal_holds f v g ↔ IsTrue (value (ask_goal f g) v)
 goal_holds_value f ob g v h =
     let ends = goal_holds_ends f ob g v h in (
       λ x. value_from_none (end_of (ask_goal f g) v) (ends.0 x),
@@ -71,7 +74,8 @@ goal_holds_value f ob g v h =
 
 -- goals that stand for one plan
 pub goal_holds_alike :
-    (f : Function) (ob : ObName) (g h : GoalTree) (v : ℕ → ℤ) → IsGoalOf f ob g → IsGoalOf f ob h → ask_goal f g ≡ ask_goal f h
+    (f : Function) (ob : ObName) (g h : GoalTree) (v : ℕ → ℤ) → IsGoalOf f ob g → IsGoalOf f ob h
+    → ask_goal f g ≡ ask_goal f h
     → goal_holds f v g ↔ goal_holds f v h
 goal_holds_alike f ob g h v hg hh e =
     let first = goal_holds_ends f ob g v hg in

@@ -25,12 +25,14 @@ ask_form-compared cmp.Lt x y p q = refl
 ask_form-compared cmp.Le x y p q = refl
 ask_form-compared cmp.Eq x y p q = refl
 
-ask_form-atom_form : (atom : Atom) (a b : SymOp) (p q : Plan Why) → ask_form (atom_form atom a b) p q ≡ ask_atom atom a b p q
+ask_form-atom_form : (atom : Atom) (a b : SymOp) (p q : Plan Why)
+    → ask_form (atom_form atom a b) p q ≡ ask_atom atom a b p q
 unfolding ask_atom
 ask_form-atom_form atom a b p q = ask_form-compared atom.cmp _ _ p q
 
 -- the form of a guard asks what the guard asks
-pub ask_form_guard_form : (g : Formula) (a b : SymOp) (p q : Plan Why) → ask_form (guard_form g a b) p q ≡ ask_guard g a b p q
+pub ask_form_guard_form : (g : Formula) (a b : SymOp) (p q : Plan Why)
+    → ask_form (guard_form g a b) p q ≡ ask_guard g a b p q
 unfolding ask_form ask_guard
 ask_form_guard_form Always a b p q = refl
 ask_form_guard_form (Compare atom) a b p q = ask_form-atom_form atom a b p q
@@ -50,7 +52,8 @@ same_test false true e = ap is_none e
 same_test false false e = refl
 
 pub guard_form_holds :
-    (g : Formula) (v : ℕ → ℤ) (a b : SymOp) (x y : Op) → v 0 ≡ pos 0 → StandsForOperation v a x → StandsForOperation v b y
+    (g : Formula) (v : ℕ → ℤ) (a b : SymOp) (x y : Op) → v 0 ≡ pos 0 → StandsForOperation v a x
+    → StandsForOperation v b y
     → form_holds v (guard_form g a b) ≡ holds_of g x y
 guard_form_holds g v a b x y zero sx sy =
     same_test (form_holds v (guard_form g a b)) (holds_of g x y)

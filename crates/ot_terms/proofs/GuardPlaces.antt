@@ -36,7 +36,8 @@ module _ (count : ℕ) (some : 0 < count) where
   IsPlace-lowerable : (y : Place) → IsLowerable count y → IsPlace count y
   IsPlace-lowerable y h = record { name = h.name; near = record { low = omega (arith, ints); high = h.high } }
 
-  HasPlaces-compared : (c : Cmp) (x y : Place) → IsPlace count x → IsLowerable count y → HasPlaces count (compared c x y)
+  HasPlaces-compared : (c : Cmp) (x y : Place) → IsPlace count x → IsLowerable count y
+      → HasPlaces count (compared c x y)
   HasPlaces-compared cmp.Lt x y hx hy = (hx, hy)
   HasPlaces-compared cmp.Le x y hx hy = (hx, IsPlace-lowerable y hy)
   HasPlaces-compared cmp.Eq x y hx hy = (hx, IsPlace-lowerable y hy)
@@ -52,7 +53,8 @@ module _ (count : ℕ) (some : 0 < count) where
     -- an atom has places below the count, either way round
     HasPlaces-sides :
         (c : Cmp) (sort : Sort) (side : Side) (k : ℤ) → IsNear 99 k
-        → HasPlaces count (compared c (sym_thing sort (of_side side a b)) (plus (sym_thing sort (of_side (other_side side) a b)) k))
+        → HasPlaces count
+        (compared c (sym_thing sort (of_side side a b)) (plus (sym_thing sort (of_side (other_side side) a b)) k))
     HasPlaces-sides c sort First k hk =
         HasPlaces-compared c (sym_thing sort a) (plus (sym_thing sort b) k)
         (IsPlace-near (sym_thing sort a) (thing_named sort a ha) (sym_thing_near 99 sort a na))
@@ -70,6 +72,7 @@ module _ (count : ℕ) (some : 0 < count) where
     HasPlaces-guard (Not g) near = HasPlaces-guard g near
 
 pub guard_form_has_places :
-    (g : Formula) (count : ℕ) (a b : SymOp) → HasNearAtoms g → 0 < count → HasNames count a → HasNames count b → IsNearOp 99 a
+    (g : Formula) (count : ℕ) (a b : SymOp) → HasNearAtoms g → 0 < count → HasNames count a
+    → HasNames count b → IsNearOp 99 a
     → IsNearOp 99 b → HasPlaces count (guard_form g a b)
 guard_form_has_places g count a b near some ha hb na nb = HasPlaces-guard count some a b ha hb na nb g near

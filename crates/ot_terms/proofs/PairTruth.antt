@@ -1,5 +1,6 @@
 -- What is left of a pair after some results is true exactly where what is left to be asked ends in `Holds`.
-use Rattle.std.proofs.Common.{◌≡◌, ℕ, zero, suc, ℤ, pos, ◌+ℤ◌, if◌then◌else◌, Option, Some, None, List, [], ◌∷◌, ap, sym, ◌∙◌}
+use Rattle.std.proofs.Common.{◌≡◌, ℕ, zero, suc, ℤ, pos, ◌+ℤ◌, if◌then◌else◌, Option, Some, None, List, [], ◌∷◌, ap}
+use Rattle.std.proofs.Common.{sym, ◌∙◌}
 use Rattle.std.specs.Prelude.{◌↔◌}
 use Rattle.std.specs.Ordering.{int_eq}
 use Rattle.std.proofs.lemmas.Bool.Decides.{Decides-int_eq}
@@ -32,7 +33,8 @@ use Rattle.ot_terms.proofs.Results.{result_holds}
 
 module _ (v : ℕ → ℤ) where
   end-enabled_form :
-      (o : SymOp) (off : ℤ) (p q : Plan Why) → end_of (ask_enabled o off p q) v ≡ by_test (form_holds v (enabled_form o off)) p q v
+      (o : SymOp) (off : ℤ) (p q : Plan Why)
+      → end_of (ask_enabled o off p q) v ≡ by_test (form_holds v (enabled_form o off)) p q v
   end-enabled_form o off p q =
       ap (λ x. end_of x v) (sym (ask_form-enabled_form o off p q)) ∙ end_form (enabled_form o off) p q v
 
@@ -41,7 +43,8 @@ module _ (v : ℕ → ℤ) where
     abbrev cells_end : Option Why
     cells_end = end_of (ask_same (seen v mode left (pos 0)) (seen v mode right (pos 0))) v
 
-    end-documents : (off : ℤ) → end_of (ask_documents mode left right off) v ≡ (if form_holds v (index_form off) then cells_end else None)
+    end-documents : (off : ℤ)
+        → end_of (ask_documents mode left right off) v ≡ (if form_holds v (index_form off) then cells_end else None)
     unfolding ask_documents ask_form ask_le ask_lt ask_eq
     end-documents off =
         let compared = ask_cell mode left (pos 0) (λ x. ask_cell mode right (pos 0) (λ y. ask_same x y)) in
@@ -51,24 +54,28 @@ module _ (v : ℕ → ℤ) where
         ∙ end-cell mode right (pos 0) (λ y. ask_same (seen v mode left (pos 0)) y) v)
 
     cells_hold :
-        AreSameCell v (cells.At (doc_of mode left) (index_and (pos 0))) (cells.At (doc_of mode right) (index_and (pos 0)))
+        AreSameCell v (cells.At (doc_of mode left) (index_and (pos 0)))
+        (cells.At (doc_of mode right) (index_and (pos 0)))
         ↔ (cells_end ≡ None)
     cells_hold =
         let x : Finished = seen v mode left (pos 0) in
         let y : Finished = seen v mode right (pos 0) in (
           λ h. found_where_same v x y
               (λ base. sym (read_made base v mode left (pos 0)) ∙ (h base ∙ read_made base v mode right (pos 0))),
-          λ e base. read_made base v mode left (pos 0) ∙ (same_where_found v x y e base ∙ sym (read_made base v mode right (pos 0))),
+          λ e base. read_made base v mode left (pos 0)
+              ∙ (same_where_found v x y e base ∙ sym (read_made base v mode right (pos 0))),
         )
 
   -- two operations and their forms
   module _ (mode : Mode) (a p b q : SymOp) where
     abbrev documents_end : Option Why
     documents_end =
-        if form_holds v (index_form (growth mode a +ℤ growth mode p)) then cells_end mode (p ∷ a ∷ []) (q ∷ b ∷ []) else None
+        if form_holds v (index_form (growth mode a +ℤ growth mode p))
+        then cells_end mode (p ∷ a ∷ []) (q ∷ b ∷ []) else None
 
     abbrev lengths_end : Option Why
-    lengths_end = if int_eq (growth mode a +ℤ growth mode p) (growth mode b +ℤ growth mode q) then documents_end else Some Lengths
+    lengths_end = if int_eq (growth mode a +ℤ growth mode p) (growth mode b +ℤ growth mode q)
+        then documents_end else Some Lengths
 
     end-lengths : end_of (ask_lengths mode a p b q) v ≡ lengths_end
     unfolding ask_lengths
@@ -87,7 +94,8 @@ module _ (v : ℕ → ℤ) where
     end-ways : end_of (ask_ways mode a p b q) v ≡ ways_end
     unfolding ask_ways
     end-ways =
-        end-enabled_form p (growth mode a) (ask_enabled q (growth mode b) (ask_lengths mode a p b q) (Fails OutOfRange)) (Fails OutOfRange)
+        end-enabled_form p (growth mode a)
+        (ask_enabled q (growth mode b) (ask_lengths mode a p b q) (Fails OutOfRange)) (Fails OutOfRange)
         ∙ ap (λ e. if form_holds v (enabled_form p (growth mode a)) then e else Some OutOfRange)
         (end-enabled_form q (growth mode b) (ask_lengths mode a p b q) (Fails OutOfRange)
         ∙ ap (λ e. if form_holds v (enabled_form q (growth mode b)) then e else Some OutOfRange) end-lengths)
@@ -117,7 +125,8 @@ module _ (v : ℕ → ℤ) where
     abbrev After : ℕ → List SymOp → Type 0
     After most got = HoldsAfter most f v (Pair k l) (a ∷ b ∷ os) got
 
-    after_two : (most : ℕ) (p q : SymOp) (got : List SymOp) → After most (p ∷ q ∷ got) ↔ (end_of (ask_ways f.head.mode a p b q) v ≡ None)
+    after_two : (most : ℕ) (p q : SymOp) (got : List SymOp)
+        → After most (p ∷ q ∷ got) ↔ (end_of (ask_ways f.head.mode a p b q) v ≡ None)
     after_two zero p q got = ways_hold f.head.mode a p b q
     after_two (suc most) p q got = ways_hold f.head.mode a p b q
 
@@ -125,7 +134,8 @@ module _ (v : ℕ → ℤ) where
         (most : ℕ) (p : SymOp)
         → After (suc most) (p ∷ []) ↔ (end_of (ask_transform f a b (λ q. ask_ways f.head.mode a p b q)) v ≡ None)
     after_one most p =
-        result_holds v a b f 0 (λ q. After most (p ∷ q ∷ [])) (λ q. ask_ways f.head.mode a p b q) (λ q. after_two most p q [])
+        result_holds v a b f 0 (λ q. After most (p ∷ q ∷ [])) (λ q. ask_ways f.head.mode a p b q)
+        (λ q. after_two most p q [])
 
     after_none : (most : ℕ) → After (suc (suc most)) [] ↔ (end_of (ask_converge f a b) v ≡ None)
     unfolding ask_converge

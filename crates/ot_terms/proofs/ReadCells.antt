@@ -1,5 +1,6 @@
 -- Reading a cell at a valuation: the finished cell that it comes to, which is the cell for every base document.
-use Rattle.std.proofs.Common.{◌≡◌, ℕ, ℤ, pos, negsuc, ◌+ℤ◌, Bool, true, false, if◌then◌else◌, int_lt, int_le, List, [], ◌∷◌, refl, ap, sym, ◌∙◌, arith}
+use Rattle.std.proofs.Common.{◌≡◌, ℕ, ℤ, pos, negsuc, ◌+ℤ◌, Bool, true, false, if◌then◌else◌, int_lt, int_le, List, []}
+use Rattle.std.proofs.Common.{◌∷◌, refl, ap, sym, ◌∙◌, arith}
 use Rattle.std.proofs.lemmas.Int.{ints}
 use Rattle.std.specs.Ordering.{int_eq}
 use Rattle.ot_model.specs.declared.op.Mode.{Mode}
@@ -22,7 +23,8 @@ use Rattle.ot_terms.specs.Documents as documents
 use Rattle.ot_terms.specs.Documents.{DocTree}
 use Rattle.ot_terms.specs.Cells as cells
 use Rattle.ot_terms.specs.Cells.{CellTree}
-use Rattle.ot_terms.specs.Meaning.{IntegerCell, BaseDocument, base_cell_at, char_cell, killed, rewritten_cell, by_place, cell_of_doc, cell_of}
+use Rattle.ot_terms.specs.Meaning.{IntegerCell, BaseDocument, base_cell_at, char_cell, killed, rewritten_cell, by_place}
+use Rattle.ot_terms.specs.Meaning.{cell_of_doc, cell_of}
 use Rattle.ot_terms.specs.Changes.{changed, doc_of}
 use Rattle.ot_terms.specs.Standing.{changes_of, ask_read}
 use Rattle.ot_terms.specs.Belonging.{IsDocOf, IsCellOf}
@@ -71,9 +73,11 @@ module _ (base : BaseDocument) (v : ℕ → ℤ) where
   -- before a place, at it, and behind it, of numbers: at it is where it is not before and at most
   by_tests :
       (s t u : Bool) (x y z : Finished) → (s ≡ false → t ≡ u)
-      → (if s then finished_at x else (if t then finished_at y else finished_at z)) ≡ finished_at (if s then x else (if u then y else z))
+      → (if s then finished_at x else (if t then finished_at y else finished_at z))
+      ≡ finished_at (if s then x else (if u then y else z))
   by_tests true t u x y z h = refl
-  by_tests false t u x y z h = ap (λ b. if b then finished_at y else finished_at z) (h refl) ∙ if_through finished_at u y z
+  by_tests false t u x y z h = ap (λ b. if b then finished_at y else finished_at z) (h refl)
+      ∙ if_through finished_at u y z
 
   by_place-le :
       (j p : ℤ) (x y z : Finished)
@@ -87,21 +91,27 @@ module _ (base : BaseDocument) (v : ℕ → ℤ) where
       → ((k : ℤ) → cell_of_doc base v d (v 2 +ℤ k) ≡ finished_at (seen v mode os k))
       → cell_of_doc base v (changed mode o d) (v 2 +ℤ off) ≡ finished_at (seen v mode (o ∷ os) off)
   read_changed mode (ops.Ins at ch site) d os off h =
-      ap (λ x. by_place (v 2 +ℤ off) (integer_at v at) x (char_cell (v ch)) (cell_of_doc base v d ((v 2 +ℤ off) +ℤ negsuc 0))) (h off)
+      ap (λ x. by_place (v 2 +ℤ off) (integer_at v at) x (char_cell (v ch))
+      (cell_of_doc base v d ((v 2 +ℤ off) +ℤ negsuc 0))) (h off)
       ∙ (ap (λ x. by_place (v 2 +ℤ off) (integer_at v at) (finished_at (seen v mode os off)) (char_cell (v ch)) x)
       (ap (cell_of_doc base v d) (sym (plus-assoc (v 2) off (negsuc 0))) ∙ h (off +ℤ negsuc 0))
-      ∙ by_place-le (v 2 +ℤ off) (integer_at v at) (seen v mode os off) (put_cell ch) (seen v mode os (off +ℤ negsuc 0)))
+      ∙ by_place-le (v 2 +ℤ off) (integer_at v at) (seen v mode os off) (put_cell ch)
+      (seen v mode os (off +ℤ negsuc 0)))
   read_changed Plain (ops.Del at site) d os off h =
-      ap (λ x. if int_lt (v 2 +ℤ off) (integer_at v at) then x else cell_of_doc base v d ((v 2 +ℤ off) +ℤ pos 1)) (h off)
+      ap (λ x. if int_lt (v 2 +ℤ off) (integer_at v at) then x
+      else cell_of_doc base v d ((v 2 +ℤ off) +ℤ pos 1)) (h off)
       ∙ (ap (λ x. if int_lt (v 2 +ℤ off) (integer_at v at) then finished_at (seen v Plain os off) else x)
       (ap (cell_of_doc base v d) (sym (plus-assoc (v 2) off (pos 1))) ∙ h (off +ℤ pos 1))
-      ∙ if_through finished_at (int_lt (v 2 +ℤ off) (integer_at v at)) (seen v Plain os off) (seen v Plain os (off +ℤ pos 1)))
+      ∙ if_through finished_at (int_lt (v 2 +ℤ off) (integer_at v at)) (seen v Plain os off)
+      (seen v Plain os (off +ℤ pos 1)))
   read_changed Tomb (ops.Del at site) d os off h =
       ap (λ x. by_place (v 2 +ℤ off) (integer_at v at) x (killed x) x) (h off)
-      ∙ by_place-le (v 2 +ℤ off) (integer_at v at) (seen v Tomb os off) (buried_cell (seen v Tomb os off)) (seen v Tomb os off)
+      ∙ by_place-le (v 2 +ℤ off) (integer_at v at) (seen v Tomb os off)
+      (buried_cell (seen v Tomb os off)) (seen v Tomb os off)
   read_changed mode (ops.Upd at ch site) d os off h =
       ap (λ x. by_place (v 2 +ℤ off) (integer_at v at) x (rewritten_cell (v ch) x) x) (h off)
-      ∙ by_place-le (v 2 +ℤ off) (integer_at v at) (seen v mode os off) (replaced_cell ch (seen v mode os off)) (seen v mode os off)
+      ∙ by_place-le (v 2 +ℤ off) (integer_at v at) (seen v mode os off)
+      (replaced_cell ch (seen v mode os off)) (seen v mode os off)
   read_changed mode ops.Nop d os off h = h off
 
   -- a cell of a document is the one that is seen after its changes

@@ -1,5 +1,6 @@
 -- A transformation at a valuation: what is asked for its result goes on with the result that its cases give.
-use Rattle.std.proofs.Common.{◌≡◌, ℕ, ℤ, ◌&&◌, ◌||◌, not, if◌then◌else◌, Option, Some, None, List, [], ◌∷◌, drop, refl, ap, sym, ◌∙◌, subst}
+use Rattle.std.proofs.Common.{◌≡◌, ℕ, ℤ, ◌&&◌, ◌||◌, not, if◌then◌else◌, Option, Some, None, List, [], ◌∷◌, drop, refl}
+use Rattle.std.proofs.Common.{ap, sym, ◌∙◌, subst}
 use Rattle.std.specs.Prelude.{◌↔◌, IsSomeAnd}
 use Rattle.ot_model.specs.declared.op.Kind.{Kind}
 use Rattle.fn_rules.specs.declared.guard.Cmp.{Cmp}
@@ -20,7 +21,8 @@ use Rattle.ot_terms.specs.Truth.{first_sym_result, result_by_kinds, result_from}
 use Rattle.ot_terms.proofs.Choices.{along, result_goes_on}
 
 module _ (v : ℕ → ℤ) where
-  form_holds-compared : (c : Cmp) (x y : Place) → form_holds v (compared c x y) ≡ is_compared c (integer_at v x) (integer_at v y)
+  form_holds-compared : (c : Cmp) (x y : Place)
+      → form_holds v (compared c x y) ≡ is_compared c (integer_at v x) (integer_at v y)
   form_holds-compared cmp.Lt x y = refl
   form_holds-compared cmp.Le x y = refl
   form_holds-compared cmp.Eq x y = refl
@@ -44,13 +46,15 @@ module _ (v : ℕ → ℤ) where
         ∙ ap (λ o. if sym_holds v c.guard a b then Some (sym_result c.res a b) else o) (first_sym_result-sym_first cs)
 
     result_by_kinds-sym_by_kinds :
-        (f : Function) (case : ℕ) (j k : Option Kind) → result_by_kinds f v case a b j k ≡ sym_by_kinds v (from_case case f) a b j k
+        (f : Function) (case : ℕ) (j k : Option Kind)
+        → result_by_kinds f v case a b j k ≡ sym_by_kinds v (from_case case f) a b j k
     result_by_kinds-sym_by_kinds f case None k = refl
     result_by_kinds-sym_by_kinds f case (Some j) None = refl
     result_by_kinds-sym_by_kinds f case (Some j) (Some k) = first_sym_result-sym_first (drop case (f.cases j k))
 
     pub result_holds :
-        (f : Function) (case : ℕ) (P : SymOp → Type 0) (go : SymOp → Plan Why) → ((r : SymOp) → P r ↔ (end_of (go r) v ≡ None))
+        (f : Function) (case : ℕ) (P : SymOp → Type 0) (go : SymOp → Plan Why)
+        → ((r : SymOp) → P r ↔ (end_of (go r) v ≡ None))
         → IsSomeAnd (result_from f v case a b) P ↔ (end_of (ask_transform (from_case case f) a b go) v ≡ None)
     result_holds f case P go h =
         let left = from_case case f in

@@ -16,7 +16,8 @@ use Rattle.ot_questions.specs.Nears.{IsNearOp, IsDeclaredOp}
 use Rattle.ot_questions.specs.Places.{place, sym_op, sym_site, sym_char}
 use Rattle.ot_questions.proofs.Nears.{IsNear-zero, both_true}
 use Rattle.ot_terms.specs.Goals.{GoalTree}
-use Rattle.ot_terms.specs.Starting.{enabled_form, if_differ, if_assumed, if_allowed, if_all_enabled, if_length, first_choice, start_goal_of}
+use Rattle.ot_terms.specs.Starting.{enabled_form, if_differ, if_assumed, if_allowed, if_all_enabled, if_length}
+use Rattle.ot_terms.specs.Starting.{first_choice, start_goal_of}
 use Rattle.ot_terms.specs.Belonging.{IsPlace, IsLowerable, HasPlaces, IsMade, HasParts, IsGoalOf}
 
 IsPlace-name : (count x : ℕ) → x < count → IsPlace count (place x (pos 0))
@@ -87,7 +88,8 @@ IsNearOp-sym_op kinds.Ins who = IsNear-zero 99
 IsNearOp-sym_op kinds.Del who = IsNear-zero 99
 IsNearOp-sym_op kinds.Upd who = IsNear-zero 99
 
-IsDeclaredOp-sym_op : (head : Head) (k : Kind) (who : Who) → IsTrue (is_declared head k) → IsDeclaredOp head (sym_op k who)
+IsDeclaredOp-sym_op : (head : Head) (k : Kind) (who : Who) → IsTrue (is_declared head k)
+    → IsDeclaredOp head (sym_op k who)
 IsDeclaredOp-sym_op head kinds.Ins who h = h
 IsDeclaredOp-sym_op head kinds.Del who h = h
 IsDeclaredOp-sym_op head kinds.Upd who h = h
@@ -121,7 +123,8 @@ module _ (f : Function) (ob : ObName) where
       (if_assumed f.head.chars_differ (sym_char a) (sym_char b) next)
       (site_is_below n k who hw)
       (site_is_below n l other ho)
-      (HasParts-if_assumed f.head.chars_differ (sym_char a) (sym_char b) next (char_is_below n k who hw) (char_is_below n l other ho) h)
+      (HasParts-if_assumed f.head.chars_differ (sym_char a) (sym_char b) next (char_is_below n k who hw)
+      (char_is_below n l other ho) h)
 
   HasParts-if_length : (next : GoalTree) → 1 < name_count ob → HasParts f ob next → HasParts f ob (if_length next)
   HasParts-if_length next one h =

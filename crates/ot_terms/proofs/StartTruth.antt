@@ -51,11 +51,14 @@ start_of_means f ob n valid declared = (
 
 -- at a negative length there is nothing to show
 short_of_cells :
-    (f : Function) (v : ℕ → ℤ) (n : ℕ) (next : GoalTree) → v 0 ≡ pos 0 → v 1 ≡ negsuc n → goal_holds f v (if_length next)
-short_of_cells f v n next z e = subst (λ t. MatchBool t (goal_holds f v next) (Unit {0})) (sym (negative_length v n z e)) tt
+    (f : Function) (v : ℕ → ℤ) (n : ℕ) (next : GoalTree) → v 0 ≡ pos 0 → v 1 ≡ negsuc n
+    → goal_holds f v (if_length next)
+short_of_cells f v n next z e =
+    subst (λ t. MatchBool t (goal_holds f v next) (Unit {0})) (sym (negative_length v n z e)) tt
 
 -- at a negative length the first goal holds
-no_cells : (f : Function) (ob : ObName) (v : ℕ → ℤ) (n : ℕ) → v 0 ≡ pos 0 → v 1 ≡ negsuc n → goal_holds f v (start_goal_of f.head ob)
+no_cells : (f : Function) (ob : ObName) (v : ℕ → ℤ) (n : ℕ) → v 0 ≡ pos 0 → v 1 ≡ negsuc n
+    → goal_holds f v (start_goal_of f.head ob)
 no_cells f (Pair k l) v n z e =
     let a = sym_op k A in
     let b = sym_op l B in

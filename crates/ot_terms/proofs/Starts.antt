@@ -1,5 +1,6 @@
 -- The goal that an obligation begins with asks what the obligation asks.
-use Rattle.std.proofs.Common.{◌≡◌, ℕ, ℤ, pos, Bool, true, false, if◌then◌else◌, Option, Some, None, List, [], ◌∷◌, refl, ap, ◌∙◌}
+use Rattle.std.proofs.Common.{◌≡◌, ℕ, ℤ, pos, Bool, true, false, if◌then◌else◌, Option, Some, None, List, [], ◌∷◌, refl}
+use Rattle.std.proofs.Common.{ap, ◌∙◌}
 use Rattle.ot_model.specs.declared.op.Kind.{Kind}
 use Rattle.fn_rules.specs.declared.function.ObName.{ObName}
 use Rattle.fn_rules.specs.declared.function.ObName.TheVariants.{Pair, Triple}
@@ -12,10 +13,13 @@ use Rattle.ot_questions.specs.declared.place.SymOp.TheVariants.{Ins, Del, Upd, N
 use Rattle.ot_questions.specs.declared.why.Why.{Why}
 use Rattle.ot_questions.specs.Places.{zero_place, length_and, sym_op, sym_site, sym_char}
 use Rattle.ot_questions.specs.Questions.{ask_le, ask_enabled, ask_differ, ask_allowed, ask_lt, ask_eq}
-use Rattle.ot_questions.specs.Obligation.{ask_converge, ask_all_enabled, ask_pair, ask_behind, ask_commute, ask_triple, plan_of}
+use Rattle.ot_questions.specs.Obligation.{ask_converge, ask_all_enabled, ask_pair, ask_behind, ask_commute, ask_triple}
+use Rattle.ot_questions.specs.Obligation.{plan_of}
 use Rattle.ot_terms.specs.Goals.{GoalTree}
-use Rattle.ot_terms.specs.Standing.{ask_form, ask_goal, ask_after, ask_pair_after, ask_triple_after, ask_second_way_after}
-use Rattle.ot_terms.specs.Starting.{enabled_form, if_differ, if_assumed, if_allowed, if_all_enabled, if_length, first_choice, start_goal_of}
+use Rattle.ot_terms.specs.Standing.{ask_form, ask_goal, ask_after, ask_pair_after, ask_triple_after}
+use Rattle.ot_terms.specs.Standing.{ask_second_way_after}
+use Rattle.ot_terms.specs.Starting.{enabled_form, if_differ, if_assumed, if_allowed, if_all_enabled, if_length}
+use Rattle.ot_terms.specs.Starting.{first_choice, start_goal_of}
 
 pub ask_form-enabled_form :
     (o : SymOp) (off : ℤ) (p q : Plan Why) → ask_form (enabled_form o off) p q ≡ ask_enabled o off p q
@@ -35,15 +39,18 @@ module _ (f : Function) where
 
   ask_goal-if_assumed :
       (assumed : Bool) (x y : Option ℕ) (next : GoalTree)
-      → ask_goal f (if_assumed assumed x y next) ≡ (if assumed then ask_differ x y (ask_goal f next) else ask_goal f next)
+      → ask_goal f (if_assumed assumed x y next)
+      ≡ (if assumed then ask_differ x y (ask_goal f next) else ask_goal f next)
   ask_goal-if_assumed true x y next = ask_goal-if_differ x y next
   ask_goal-if_assumed false x y next = refl
 
   ask_goal-if_allowed :
-      (a b : SymOp) (next : GoalTree) → ask_goal f (if_allowed f.head a b next) ≡ ask_allowed f.head a b (ask_goal f next)
+      (a b : SymOp) (next : GoalTree)
+      → ask_goal f (if_allowed f.head a b next) ≡ ask_allowed f.head a b (ask_goal f next)
   unfolding ask_allowed
   ask_goal-if_allowed a b next =
-      ask_goal-if_assumed f.head.sites_differ (sym_site a) (sym_site b) (if_assumed f.head.chars_differ (sym_char a) (sym_char b) next)
+      ask_goal-if_assumed f.head.sites_differ (sym_site a) (sym_site b)
+      (if_assumed f.head.chars_differ (sym_char a) (sym_char b) next)
       ∙ ap (λ p. if f.head.sites_differ then ask_differ (sym_site a) (sym_site b) p else p)
       (ask_goal-if_assumed f.head.chars_differ (sym_char a) (sym_char b) next)
 
@@ -56,7 +63,8 @@ module _ (f : Function) where
       ∙ ap (λ p. ask_enabled o (pos 0) p plans.Holds) (ask_goal-if_all_enabled os next)
 
   ask_goal-if_length :
-      (next : GoalTree) → ask_goal f (if_length next) ≡ ask_le zero_place (length_and (pos 0)) (ask_goal f next) plans.Holds
+      (next : GoalTree)
+      → ask_goal f (if_length next) ≡ ask_le zero_place (length_and (pos 0)) (ask_goal f next) plans.Holds
   unfolding ask_goal ask_form ask_le ask_lt ask_eq
   ask_goal-if_length next = refl
 

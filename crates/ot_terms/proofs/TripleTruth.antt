@@ -27,9 +27,11 @@ module _ (v : ℕ → ℤ) where
   one_place_holds None (Some k) x y = test_holds false Operations
   one_place_holds (Some j) None x y = test_holds false Operations
   one_place_holds (Some j) (Some k) x y =
-      along _ _ _ (end-eq x y Holds (Fails Operations) v) (test_holds (int_eq (integer_at v x) (integer_at v y)) Operations)
+      along _ _ _ (end-eq x y Holds (Fails Operations) v)
+      (test_holds (int_eq (integer_at v x) (integer_at v y)) Operations)
 
-  one_form_holds : (left right : SymOp) → IsTrue (is_one_form v left right) ↔ (end_of (ask_same_form left right) v ≡ None)
+  one_form_holds : (left right : SymOp)
+      → IsTrue (is_one_form v left right) ↔ (end_of (ask_same_form left right) v ≡ None)
   unfolding ask_same_form
   one_form_holds left right = one_place_holds (sym_kind left) (sym_kind right) (sym_at left) (sym_at right)
 
@@ -48,16 +50,20 @@ module _ (v : ℕ → ℤ) where
       after_six zero s t right got = one_form_holds left right
       after_six (suc most) s t right got = one_form_holds left right
 
-      after_five : (most : ℕ) (s t : SymOp) → After (suc most) (p ∷ q ∷ left ∷ s ∷ t ∷ []) ↔ (end_of (ask_right s t) v ≡ None)
+      after_five : (most : ℕ) (s t : SymOp)
+          → After (suc most) (p ∷ q ∷ left ∷ s ∷ t ∷ []) ↔ (end_of (ask_right s t) v ≡ None)
       after_five most s t =
-          result_holds v t s f 0 (λ right. After most (p ∷ q ∷ left ∷ s ∷ t ∷ right ∷ [])) (λ right. ask_same_form left right)
+          result_holds v t s f 0 (λ right. After most (p ∷ q ∷ left ∷ s ∷ t ∷ right ∷ []))
+          (λ right. ask_same_form left right)
           (λ right. after_six most s t right [])
 
       after_four :
           (most : ℕ) (s : SymOp)
-          → After (suc (suc most)) (p ∷ q ∷ left ∷ s ∷ []) ↔ (end_of (ask_transform f c b (λ t. ask_right s t)) v ≡ None)
+          → After (suc (suc most)) (p ∷ q ∷ left ∷ s ∷ [])
+          ↔ (end_of (ask_transform f c b (λ t. ask_right s t)) v ≡ None)
       after_four most s =
-          result_holds v c b f 0 (λ t. After (suc most) (p ∷ q ∷ left ∷ s ∷ t ∷ [])) (λ t. ask_right s t) (after_five most s)
+          result_holds v c b f 0 (λ t. After (suc most) (p ∷ q ∷ left ∷ s ∷ t ∷ []))
+          (λ t. ask_right s t) (after_five most s)
 
       after_three :
           (most : ℕ)
@@ -92,7 +98,8 @@ module _ (v : ℕ → ℤ) where
         result_holds v b a f 0 (λ p. After 5 (p ∷ []))
         (λ p. ask_transform f c a (λ q. ask_transform f q p ask_other_way)) (after_one 0)
 
-    pub triple_after : (got : List SymOp) → After 6 got ↔ (end_of (ask_after f (Triple k l m) (a ∷ b ∷ c ∷ os) got) v ≡ None)
+    pub triple_after : (got : List SymOp)
+        → After 6 got ↔ (end_of (ask_after f (Triple k l m) (a ∷ b ∷ c ∷ os) got) v ≡ None)
     unfolding ask_after ask_triple_after ask_second_way_after ask_behind
     triple_after [] = after_none
     triple_after (p ∷ []) = after_one 1 p

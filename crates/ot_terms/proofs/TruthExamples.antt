@@ -1,5 +1,6 @@
 -- The truth of goals, computed on small ones.
-use Rattle.std.proofs.Common.{◌≡◌, ℕ, zero, suc, ℤ, pos, negsuc, if◌then◌else◌, nat_eq, Some, None, [], ◌∷◌, refl, ap, sym}
+use Rattle.std.proofs.Common.{◌≡◌, ℕ, zero, suc, ℤ, pos, negsuc, if◌then◌else◌, nat_eq, Some, None, [], ◌∷◌, refl, ap}
+use Rattle.std.proofs.Common.{sym}
 use Rattle.std.specs.Ordering.{int_eq}
 use Rattle.std.proofs.lemmas.Bool.{false≢true}
 use Rattle.ot_model.specs.declared.op.Kind.TheVariants as kinds
@@ -36,7 +37,8 @@ larger_moves : result_from sites apart 0 (sym_op kinds.Ins B) (sym_op kinds.Ins 
 larger_moves = refl
 
 -- from the second case on, the first one is not tried; behind the last one there is none
-without_the_first : result_from sites apart 1 (sym_op kinds.Ins A) (sym_op kinds.Ins B) ≡ Some (Ins (place 3 (pos 1)) 5 4)
+without_the_first : result_from sites apart 1 (sym_op kinds.Ins A) (sym_op kinds.Ins B)
+    ≡ Some (Ins (place 3 (pos 1)) 5 4)
 without_the_first = refl
 
 behind_the_last : result_from sites apart 3 (sym_op kinds.Ins A) (sym_op kinds.Ins B) ≡ None
@@ -66,7 +68,8 @@ lower = Del (place 6 (negsuc 0)) 7
 one_document : goal_holds sites apart (goals.Deliver (sym_op kinds.Del A) (with_first lower))
 one_document = record { b_enabled = refl; a_enabled = refl; lengths = refl; cells = λ within base. refl }
 
-whole_pair : goal_holds sites apart (first_choice (Pair kinds.Del kinds.Del) (sym_op kinds.Del A) (sym_op kinds.Del B) Nop)
+whole_pair :
+    goal_holds sites apart (first_choice (Pair kinds.Del kinds.Del) (sym_op kinds.Del A) (sym_op kinds.Del B) Nop)
 whole_pair = one_document
 
 -- the cell 4 is dead, the others are live
@@ -94,7 +97,8 @@ with_left left = record {
   count = 5;
 }
 
-one_form : goal_holds sites apart (goals.Deliver (Ins (place 9 (pos 0)) 11 10) (with_left (Ins (place 6 (pos 1)) 11 10)))
+one_form :
+    goal_holds sites apart (goals.Deliver (Ins (place 9 (pos 0)) 11 10) (with_left (Ins (place 6 (pos 1)) 11 10)))
 one_form = refl
 
 not_one_form : goal_holds sites apart (goals.Deliver (Ins (place 9 (pos 0)) 11 10) (with_left Nop)) → ⊥
@@ -113,11 +117,13 @@ crossed x = if nat_eq x 3 then pos 2 else pos 1
 -- a deletion makes two insertions meet that were apart: the third operation is 1 on the one way, and 2 on the other
 puzzle :
     goal_holds sites crossed
-    (first_choice (Triple kinds.Ins kinds.Del kinds.Ins) (sym_op kinds.Ins A) (sym_op kinds.Del B) (sym_op kinds.Ins C)) → ⊥
+    (first_choice (Triple kinds.Ins kinds.Del kinds.Ins) (sym_op kinds.Ins A) (sym_op kinds.Del B) (sym_op kinds.Ins C))
+    → ⊥
 puzzle h = false≢true h
 
 -- a form chooses
-by_form : goal_holds sites apart (goals.If (forms.Le zero_place (index_and (pos 0))) goals.Holds (goals.Fails Undefined))
+by_form :
+    goal_holds sites apart (goals.If (forms.Le zero_place (index_and (pos 0))) goals.Holds (goals.Fails Undefined))
 by_form = tt
 
 -- a deletion at the end is not enabled: there is nothing to show
@@ -125,6 +131,6 @@ nothing_to_show : goal_holds sites (λ x. pos 4) (start_goal_of sites.head (Pair
 nothing_to_show = tt
 
 -- two ways to read one cell
-one_cell : goal_holds sites apart (goals.Same (cells.At (documents.Cut documents.Base (place 3 (pos 0))) (index_and (pos 0)))
-    (cells.At documents.Base (index_and (pos 1))))
+one_cell : goal_holds sites apart (goals.Same (cells.At (documents.Cut documents.Base (place 3 (pos 0)))
+    (index_and (pos 0))) (cells.At documents.Base (index_and (pos 1))))
 one_cell = λ base. refl

@@ -48,12 +48,6 @@ impl<'a> CellT<'a> {
         placed(bump, CellT::At { doc, at })
     }
 
-    pub fn of_char(bump: &'a Bump, ch: u8) -> Result<&'a CellT<'a>, NoMemory>
-        ensures { IfOk result (λ r. cell_tree r.now ≡ trees.Char ch) }
-    {
-        placed(bump, CellT::Char(ch))
-    }
-
     pub fn dead(bump: &'a Bump, cell: &'a CellT<'a>) -> Result<&'a CellT<'a>, NoMemory>
         ensures { IfOk result (λ r. cell_tree r.now ≡ trees.Dead (cell_tree cell.now)) }
     {

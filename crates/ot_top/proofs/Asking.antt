@@ -32,7 +32,8 @@ pairs_at_tp1 [] = tt
 pairs_at_tp1 (k ∷ others) = behind_pairs k (k ∷ others) (pairs_of others) (pairs_at_tp1 others)
 
 -- an obligation of the level asks a property that is asked at the level
-pub listed_at : (head : Head) (level : Level) (ob : ObName) → Contains (obligations_of head level) ob → IsAskedAt (level_of ob) level
+pub listed_at : (head : Head) (level : Level) (ob : ObName) → Contains (obligations_of head level) ob
+    → IsAskedAt (level_of ob) level
 listed_at head Tp1 ob listed =
     let Asked : ObName → Type 0 = λ o. IsAskedAt (level_of o) Tp1 in
     All-contains Asked (obligations_of head Tp1) ob
@@ -41,14 +42,18 @@ listed_at head Tp2 ob listed = at_tp2 (level_of ob)
 
 module _ {W : Type 0} (plan : ObName → Plan W) where
   -- what an obligation with these questions adds to what the others give, up to the first that fails
-  Behind : ObName → Questions W → (List (ObQuestions W) → Type 0) → List (ObQuestions W) → Option (FailingEnd W) → Type 0
+  Behind : ObName → Questions W → (List (ObQuestions W) → Type 0) → List (ObQuestions W)
+      → Option (FailingEnd W) → Type 0
   Behind ob q Later lists end =
-      MatchOption end ((later : List (ObQuestions W)) × Later later × (lists ≡ record { ob = ob; questions = q } ∷ later))
+      MatchOption end ((later : List (ObQuestions W)) × Later later
+      × (lists ≡ record { ob = ob; questions = q } ∷ later))
       (λ _. lists ≡ record { ob = ob; questions = q } ∷ [])
 
   joined_once :
-      (ob : ObName) (q : Questions W) (Later : List (ObQuestions W) → Type 0) (a b : List (ObQuestions W)) (end : Option (FailingEnd W))
-      → ((x y : List (ObQuestions W)) → Later x → Later y → x ≡ y) → Behind ob q Later a end → Behind ob q Later b end → a ≡ b
+      (ob : ObName) (q : Questions W) (Later : List (ObQuestions W) → Type 0) (a b : List (ObQuestions W))
+      (end : Option (FailingEnd W))
+      → ((x y : List (ObQuestions W)) → Later x → Later y → x ≡ y) → Behind ob q Later a end
+      → Behind ob q Later b end → a ≡ b
   unfolding Behind
   joined_once ob q Later a b None once (x, of_x, is_a) (y, of_y, is_b) =
       is_a ∙ ap (λ (l : List (ObQuestions W)). record { ob = ob; questions = q } ∷ l) (once x y of_x of_y) ∙ sym is_b
@@ -64,12 +69,13 @@ module _ {W : Type 0} (plan : ObName → Plan W) where
       let same : r ≡ q = one (plan ob) [] r q of_r of_q in
       joined_once ob q (AreAsked plan obs) a b q.failing (asked_once one obs) q_behind
       (subst (λ (s : Questions W). MatchOption s.failing ((later : List (ObQuestions W)) × AreAsked plan obs later
-      × (b ≡ record { ob = ob; questions = s } ∷ later)) (λ _. b ≡ record { ob = ob; questions = s } ∷ [])) same r_behind)
+      × (b ≡ record { ob = ob; questions = s } ∷ later)) (λ _. b ≡ record { ob = ob; questions = s } ∷ [])) same
+      r_behind)
 
   -- the obligation that fails is one of them
   fails_behind :
-      (P : ObName → Type 0) (ob : ObName) (q : Questions W) (Later : List (ObQuestions W) → Type 0) (lists : List (ObQuestions W))
-      (x : FailingOb W) (end : Option (FailingEnd W)) → q.failing ≡ end → P ob
+      (P : ObName → Type 0) (ob : ObName) (q : Questions W) (Later : List (ObQuestions W) → Type 0)
+      (lists : List (ObQuestions W)) (x : FailingOb W) (end : Option (FailingEnd W)) → q.failing ≡ end → P ob
       → ((later : List (ObQuestions W)) → Later later → failing_in later ≡ Some x → P x.ob)
       → Behind ob q Later lists end → failing_in lists ≡ Some x → P x.ob
   unfolding Behind
@@ -91,8 +97,10 @@ module _ {W : Type 0} (plan : ObName → Plan W) where
 
   -- TP2 is not asked at level tp1
   pub asked_at :
-      (head : Head) (level : Level) (lists : List (ObQuestions W)) (x : FailingOb W) → AreAsked plan (obligations_of head level) lists
+      (head : Head) (level : Level) (lists : List (ObQuestions W)) (x : FailingOb W)
+      → AreAsked plan (obligations_of head level) lists
       → failing_in lists ≡ Some x → IsAskedAt (level_of x.ob) level
   asked_at head Tp1 lists x asked fails =
-      failing_one (λ ob. IsAskedAt (level_of ob) Tp1) (obligations_of head Tp1) lists x (pairs_at_tp1 (declared_kinds head)) asked fails
+      failing_one (λ ob. IsAskedAt (level_of ob) Tp1) (obligations_of head Tp1) lists x
+      (pairs_at_tp1 (declared_kinds head)) asked fails
   asked_at head Tp2 lists x asked fails = at_tp2 (level_of x.ob)

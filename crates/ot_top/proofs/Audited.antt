@@ -24,8 +24,9 @@ module _ (texts_are_read : (bytes : List ℕ) (f : Function) → IsTextOf bytes 
   pub compared : IsAnswered words holds status IsWritten → IsCompared words holds IsWritten status
   compared (r, reply, steady, is, written) name other bytes contents f g named told other_told small text few also =
       let second : IsReplyToSecond f (holds other) r =
-      gets (holds name) bytes f told small (texts_are_read bytes f text) First (λ h. IsReplyToSecond h (holds other) r) r
-      (reply_to_asked words holds r (Same name other) named reply) in
+      gets (holds name) bytes f told small (texts_are_read bytes f text) First (λ h. IsReplyToSecond h (holds other) r)
+      r (reply_to_asked words holds r (Same name other) named reply) in
       let got : IsReplyToTwo f g r =
-      gets (holds other) contents g other_told few (texts_are_read contents g also) Second (λ h. IsReplyToTwo f h r) r second in
+      gets (holds other) contents g other_told few (texts_are_read contents g also) Second
+      (λ h. IsReplyToTwo f h r) r second in
       (got.0, got.1, is ∙ ap (λ x. status_of x) got.2, subst IsWritten (ap (λ x. text_of x) got.2) written)

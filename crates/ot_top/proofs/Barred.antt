@@ -24,8 +24,8 @@ module _ (lacks : (f : Function) → InsertsAndDeletesOnPlain f.head → ¬ (Has
 
   -- and none is written where the file is such a function's
   pub barred :
-      ((bytes : List ℕ) (f : Function) → IsTextOf bytes f → function_in bytes ≡ Ok f) → (e : Evidence) (words : List (List ℕ))
-      (holds : List ℕ → Option (List ℕ)) (IsWritten : List ℕ → Type 0) (status : ℕ)
+      ((bytes : List ℕ) (f : Function) → IsTextOf bytes f → function_in bytes ≡ Ok f) → (e : Evidence)
+      (words : List (List ℕ)) (holds : List ℕ → Option (List ℕ)) (IsWritten : List ℕ → Type 0) (status : ℕ)
       → (status ≡ 0 → IsProved e words holds IsWritten) → IsBarred e words holds status
   barred is_read e words holds IsWritten status proved budget name bytes f named told text plain zero =
       let shown = proved zero Tp2 budget name bytes named told in

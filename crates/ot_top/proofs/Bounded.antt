@@ -1,5 +1,6 @@
 -- What was written of functions whose shortest document is sought, and of certificates that none is shorter.
-use Rattle.std.proofs.Common.{◌≡◌, ◌≢◌, ◌≤◌, ◌<◌, ℕ, ℤ, pos, Bool, true, false, List, length, Option, Ok, IsTrue, refl, sym, ap, ◌∙◌, subst}
+use Rattle.std.proofs.Common.{◌≡◌, ◌≢◌, ◌≤◌, ◌<◌, ℕ, ℤ, pos, Bool, true, false, List, length, Option, Ok, IsTrue, refl}
+use Rattle.std.proofs.Common.{sym, ap, ◌∙◌, subst}
 use Rattle.std.specs.Prelude.{Result}
 use Rattle.diff_graph.specs.declared.lit.Lit.{Lit}
 use Rattle.diff_tables.specs.Solutions.{AreLeast, valuation_of}
@@ -38,7 +39,8 @@ use Rattle.ot_replies.specs.Limits.{limit_of}
 use Rattle.ot_replies.specs.Texts.{status_of, text_of}
 use Rattle.ot_words.specs.Commands.{Bound, Least}
 use Rattle.ot_words.specs.Words.{most_questions}
-use Rattle.ot_top.specs.Bounded.{IsBoundJudgedAs, IsBounded, IsBoundedAt, IsCertifiedWritten, IsShortestWritten, IsSought, ShowsLeast, ShowsShort}
+use Rattle.ot_top.specs.Bounded.{IsBoundJudgedAs, IsBounded, IsBoundedAt, IsCertifiedWritten, IsShortestWritten}
+use Rattle.ot_top.specs.Bounded.{IsSought, ShowsLeast, ShowsShort}
 use Rattle.ot_commands.specs.Bound.{IsReplyToBound, at_least}
 use Rattle.ot_commands.specs.Least.{IsReplyToLeast, ReplyTellsLeast, TellsShort}
 use Rattle.ot_commands.specs.Replies.{IsReply, IsReplyTo}
@@ -52,15 +54,18 @@ use Rattle.ot_prove.proofs.Leads.{literals_lead}
 
 -- the document of a counterexample has as many cells as the least values of its answers give
 counter_count :
-    (f : Function) (ob : ObName) (w : List Lit) (why : Why) (counter : Counter) (cells : ℕ) → IsCounter f ob w why counter
+    (f : Function) (ob : ObName) (w : List Lit) (why : Why) (counter : Counter) (cells : ℕ)
+    → IsCounter f ob w why counter
     → HasCells ob w cells → length counter.doc ≡ cells
 counter_count f ob w why counter cells is (values, least, count) =
     let same : is.values ≡ values = least_once w (floors_of ob) is.values values is.least least in
-    let counted : valuation_of is.values length_name ≡ pos cells = ap (λ (l : List ℤ). valuation_of l length_name) same ∙ count in
+    let counted : valuation_of is.values length_name ≡ pos cells = ap (λ (l : List ℤ). valuation_of l length_name) same
+    ∙ count in
     ap (λ (d : List Cell). length d) is.read.doc ∙ document_count (valuation_of is.values) why cells counted
 
 -- an accepted certificate is one at its level and its bound
-low_of : (f : Function) (bytes : List ℕ) (shown : Level × ℕ) → IsLowJudgement f bytes (Ok shown) → IsLow bytes f shown.0 shown.1
+low_of : (f : Function) (bytes : List ℕ) (shown : Level × ℕ) → IsLowJudgement f bytes (Ok shown)
+    → IsLow bytes f shown.0 shown.1
 low_of f bytes (level, bound) is = is
 
 -- TP2 is looked at where TP1 holds
@@ -77,18 +82,21 @@ pub bound_judged :
     ((bytes : List ℕ) (f : Function) → IsTextOf bytes f → function_in bytes ≡ Ok f)
     → (words : List (List ℕ)) (holds : List ℕ → Option (List ℕ)) (status : ℕ) (IsWritten : List ℕ → Type 0)
     → IsAnswered words holds status IsWritten → IsBoundJudgedAs words holds status
-bound_judged texts_are_read words holds status IsWritten (r, reply, steady, is, written) name certificate_name bytes certificate f named told
-    certificate_told small text within =
+bound_judged texts_are_read words holds status IsWritten (r, reply, steady, is, written) name certificate_name bytes
+    certificate f named told certificate_told small text within =
     let gives = reply_to_asked words holds r (Bound name certificate_name) named reply in
     let got : IsReplyToBound f (holds certificate_name) r =
-    gets (holds name) bytes f told small (texts_are_read bytes f text) First (λ g. IsReplyToBound g (holds certificate_name) r) r gives in
-    let found = file_judged (IsLowJudgement f) at_least (λ shown. refl) (holds certificate_name) certificate r certificate_told within got in
+    gets (holds name) bytes f told small (texts_are_read bytes f text) First
+    (λ g. IsReplyToBound g (holds certificate_name) r) r gives in
+    let found = file_judged (IsLowJudgement f) at_least (λ shown. refl) (holds certificate_name) certificate r
+    certificate_told within got in
     (found.0, found.1, is ∙ found.2)
 
 module _ (is_text : (bytes : List ℕ) (f : Function) → function_in bytes ≡ Ok f → IsTextOf bytes f)
     (is_within_limits : (bytes : List ℕ) (f : Function) → IsTextOf bytes f → IsTrue (is_valid f))
     (texts_are_read : (bytes : List ℕ) (f : Function) → IsTextOf bytes f → function_in bytes ≡ Ok f)
-    (low_shows : (bytes : List ℕ) (f : Function) (level : Level) (bound n : ℕ) → IsLow bytes f level bound → n < bound → HasAt f level n)
+    (low_shows : (bytes : List ℕ) (f : Function) (level : Level) (bound n : ℕ) → IsLow bytes f level bound
+    → n < bound → HasAt f level n)
     (one_low :
     (f : Function) (bytes : List ℕ) (one other : Result (Level × ℕ) JudgeError) → IsLowJudgement f bytes one
     → IsLowJudgement f bytes other → one ≡ other) where
@@ -97,7 +105,8 @@ module _ (is_text : (bytes : List ℕ) (f : Function) → function_in bytes ≡ 
       (words : List (List ℕ)) (holds : List ℕ → Option (List ℕ)) (r : Reply) (IsWritten : List ℕ → Type 0)
       → 0 ≡ status_of r → IsReply words holds r → IsWritten (text_of r) → IsBounded words holds IsWritten
   bounded words holds r IsWritten is_zero is_reply written name certificate_name bytes named told =
-      let reply : IsReplyTo holds (Bound name certificate_name) r = reply_to_asked words holds r (Bound name certificate_name) named is_reply in
+      let reply : IsReplyTo holds (Bound name certificate_name) r =
+      reply_to_asked words holds r (Bound name certificate_name) named is_reply in
       let found = accepted r is_zero IsLowJudgement at_least (holds name) (holds certificate_name) reply in
       let f : Function = found.0 in
       let shown : Level × ℕ = found.2.0 in
@@ -119,16 +128,20 @@ module _ (is_text : (bytes : List ℕ) (f : Function) → function_in bytes ≡ 
       (f : Function) (certificate : List ℕ) (level : Level) (cells : ℕ) → IsLow certificate f level cells
       → length certificate ≤ limit_of files.Certificate → (bytes : List ℕ) → length bytes ≤ limit_of files.Function
       → function_in bytes ≡ Ok f → IsBoundedAt bytes certificate level cells
-  bounded_at f certificate level cells low within bytes small read holds name certificate_name r told certificate_told reply =
-      accepted_file (IsLowJudgement f) at_least (one_low f) certificate (level, cells) low within (holds certificate_name) r certificate_told
+  bounded_at f certificate level cells low within bytes small read holds name certificate_name r
+      told certificate_told reply =
+      accepted_file (IsLowJudgement f) at_least (one_low f) certificate (level, cells) low within
+      (holds certificate_name) r certificate_told
       (gets (holds name) bytes f told small read First (λ g. IsReplyToBound g (holds certificate_name) r) r reply)
 
   module _ (broken_there :
-      (f : Function) (ob : ObName) (w : List Lit) (why : Why) (values : List ℤ) → IsTrue (is_valid f) → IsTrue (is_obligation f.head ob)
+      (f : Function) (ob : ObName) (w : List Lit) (why : Why) (values : List ℤ) → IsTrue (is_valid f)
+      → IsTrue (is_obligation f.head ob)
       → LeadTo why (plan_of f ob) w → AreLeast w (floors_of ob) values
       → Breaks f (level_of ob) (document_at (valuation_of values) why) (ops_at (valuation_of values) ob))
       (by_the_cause :
-      (f : Function) (ob : ObName) (w : List Lit) (why : Why) (values : List ℤ) → IsTrue (is_valid f) → IsTrue (is_obligation f.head ob)
+      (f : Function) (ob : ObName) (w : List Lit) (why : Why) (values : List ℤ) → IsTrue (is_valid f)
+      → IsTrue (is_obligation f.head ob)
       → LeadTo why (plan_of f ob) w → AreLeast w (floors_of ob) values
       → BreaksBy f (level_of ob) (document_at (valuation_of values) why) (ops_at (valuation_of values) ob) why)
       (IsWritten : List ℕ → Type 0) (bytes : List ℕ) (f : Function) (small : length bytes ≤ limit_of files.Function)
@@ -141,7 +154,8 @@ module _ (is_text : (bytes : List ℕ) (f : Function) → function_in bytes ≡ 
     shortest_shown ob answers why cells cert counter is counts same =
         let property : counter.level ≡ level_of ob = counts.read.level in
         let breaks =
-        counter_breaks broken_there by_the_cause f Tp2 ob (answered_by answers) why counter (is_within_limits bytes f text) is.listed
+        counter_breaks broken_there by_the_cause f Tp2 ob (answered_by answers) why counter
+        (is_within_limits bytes f text) is.listed
         (literals_lead why (plan_of f ob) answers is.way) (asked_at ob) (before f ob is.broken) counts in (
           counter,
           rw property is.broken,
@@ -155,8 +169,10 @@ module _ (is_text : (bytes : List ℕ) (f : Function) → function_in bytes ≡ 
 
     -- the certificate that was written instead: `bound` accepts it
     certified_shown :
-        (ob : ObName) (answers : List Answer) (why : Why) (cells : ℕ) (cert : List ℕ) → IsLeast f ob answers why cells cert
-        → length cert ≤ limit_of files.Certificate → r ≡ replies.Certified cert → IsCertifiedWritten f bytes cells IsWritten
+        (ob : ObName) (answers : List Answer) (why : Why) (cells : ℕ) (cert : List ℕ)
+        → IsLeast f ob answers why cells cert
+        → length cert ≤ limit_of files.Certificate → r ≡ replies.Certified cert
+        → IsCertifiedWritten f bytes cells IsWritten
     certified_shown ob answers why cells cert is within same = (
       level_of ob,
       cert,
@@ -170,7 +186,8 @@ module _ (is_text : (bytes : List ℕ) (f : Function) → function_in bytes ≡ 
     )
 
     least_shown :
-        (cert : Bool) (ob : ObName) (answers : List Answer) (why : Why) (cells : ℕ) (low : List ℕ) → IsLeast f ob answers why cells low
+        (cert : Bool) (ob : ObName) (answers : List Answer) (why : Why) (cells : ℕ) (low : List ℕ)
+        → IsLeast f ob answers why cells low
         → length low ≤ limit_of files.Certificate → ReplyTellsLeast f cert ob (answered_by answers) why cells low r
         → (status_of r ≡ 1) × ShowsLeast f bytes cert cells IsWritten
     least_shown true ob answers why cells low is within tells =
@@ -180,7 +197,8 @@ module _ (is_text : (bytes : List ℕ) (f : Function) → function_in bytes ≡ 
 
     -- what was written, by what the search comes to
     short_shown :
-        (cert : Bool) (short : Short) → short ≢ shorts.TooLong → IsTrueOf f short → IsShortWithin (limit_of files.Certificate) short → TellsShort f cert short r
+        (cert : Bool) (short : Short) → short ≢ shorts.TooLong → IsTrueOf f short
+        → IsShortWithin (limit_of files.Certificate) short → TellsShort f cert short r
         → ShowsShort f bytes cert IsWritten (status_of r) short
     short_shown cert shorts.Fine never is within tells =
         (ap (λ x. status_of x) tells, is.0, is.1, subst IsWritten (ap (λ x. text_of x) tells) written)
@@ -192,16 +210,20 @@ module _ (is_text : (bytes : List ℕ) (f : Function) → function_in bytes ≡ 
 
   -- what `least` writes, and its status, come by what the search comes to
   pub sought :
-      ((f : Function) (ob : ObName) (w : List Lit) (why : Why) (values : List ℤ) → IsTrue (is_valid f) → IsTrue (is_obligation f.head ob)
+      ((f : Function) (ob : ObName) (w : List Lit) (why : Why) (values : List ℤ) → IsTrue (is_valid f)
+      → IsTrue (is_obligation f.head ob)
       → LeadTo why (plan_of f ob) w → AreLeast w (floors_of ob) values
       → Breaks f (level_of ob) (document_at (valuation_of values) why) (ops_at (valuation_of values) ob))
-      → ((f : Function) (ob : ObName) (w : List Lit) (why : Why) (values : List ℤ) → IsTrue (is_valid f) → IsTrue (is_obligation f.head ob)
+      → ((f : Function) (ob : ObName) (w : List Lit) (why : Why) (values : List ℤ) → IsTrue (is_valid f)
+      → IsTrue (is_obligation f.head ob)
       → LeadTo why (plan_of f ob) w → AreLeast w (floors_of ob) values
       → BreaksBy f (level_of ob) (document_at (valuation_of values) why) (ops_at (valuation_of values) ob) why)
-      → ((f : Function) (budget : ℕ) (short : Short) → IsTrue (is_valid f) → IsShort f budget short → short ≢ shorts.TooLong)
+      → ((f : Function) (budget : ℕ) (short : Short) → IsTrue (is_valid f) → IsShort f budget short
+      → short ≢ shorts.TooLong)
       → (words : List (List ℕ)) (holds : List ℕ → Option (List ℕ)) (r : Reply) (IsWritten : List ℕ → Type 0)
       → IsReply words holds r → IsWritten (text_of r) → IsSought words holds IsWritten (status_of r)
-  sought broken_there by_the_cause never words holds r IsWritten is_reply written cert name bytes f named told small text =
+  sought broken_there by_the_cause never words holds r IsWritten is_reply written cert name bytes
+      f named told small text =
       let got : IsReplyToLeast f cert r =
       gets (holds name) bytes f told small (texts_are_read bytes f text) First (λ g. IsReplyToLeast g cert r) r
       (reply_to_asked words holds r (Least cert name) named is_reply) in (

@@ -36,17 +36,20 @@ IsBrokenBy f level counter =
     × AreBothWays f counter.level counter.doc counter.ops counter.left counter.right
 
 module _ (broken_there :
-    (f : Function) (ob : ObName) (w : List Lit) (why : Why) (values : List ℤ) → IsTrue (is_valid f) → IsTrue (is_obligation f.head ob)
+    (f : Function) (ob : ObName) (w : List Lit) (why : Why) (values : List ℤ) → IsTrue (is_valid f)
+    → IsTrue (is_obligation f.head ob)
     → LeadTo why (plan_of f ob) w → AreLeast w (floors_of ob) values
     → Breaks f (level_of ob) (document_at (valuation_of values) why) (ops_at (valuation_of values) ob))
     (by_the_cause :
-    (f : Function) (ob : ObName) (w : List Lit) (why : Why) (values : List ℤ) → IsTrue (is_valid f) → IsTrue (is_obligation f.head ob)
+    (f : Function) (ob : ObName) (w : List Lit) (why : Why) (values : List ℤ) → IsTrue (is_valid f)
+    → IsTrue (is_obligation f.head ob)
     → LeadTo why (plan_of f ob) w → AreLeast w (floors_of ob) values
     → BreaksBy f (level_of ob) (document_at (valuation_of values) why) (ops_at (valuation_of values) ob) why) where
   -- the counterexample of answers that lead to a failing end breaks the property of its obligation
   pub counter_breaks :
       (f : Function) (level : Level) (ob : ObName) (w : List Lit) (why : Why) (counter : Counter) → IsTrue (is_valid f)
-      → IsTrue (is_obligation f.head ob) → LeadTo why (plan_of f ob) w → IsAskedAt (level_of ob) level → HasBefore f (level_of ob)
+      → IsTrue (is_obligation f.head ob) → LeadTo why (plan_of f ob) w → IsAskedAt (level_of ob) level
+      → HasBefore f (level_of ob)
       → IsCounter f ob w why counter → IsBrokenBy f level counter
   counter_breaks f level ob w why counter valid declared leads asked before is =
       let v : ℕ → ℤ = valuation_of is.values in

@@ -1,5 +1,6 @@
 -- The statuses of `confirm` are those of the one judgement of a proof's bytes.
-use Rattle.std.proofs.Common.{◌≡◌, ◌≤◌, ℕ, List, length, take, Option, Some, Result, Ok, Err, IsTrue, refl, sym, ap, ◌∙◌, subst, inl, inr, arith}
+use Rattle.std.proofs.Common.{◌≡◌, ◌≤◌, ℕ, List, length, take, Option, Some, Result, Ok, Err, IsTrue, refl, sym, ap}
+use Rattle.std.proofs.Common.{◌∙◌, subst, inl, inr, arith}
 use Rattle.std.specs.Prelude.{is_ok, if◌then◌else◌}
 use Rattle.std.specs.Option.{ForSome}
 use Rattle.std.proofs.lemmas.List.{take_all}
@@ -31,7 +32,8 @@ use Rattle.ot_top.proofs.Showing.{not_refused, not_too_long, other_status}
 use Rattle.ot_top.proofs.Told.{IsAnswered}
 
 -- the status of a judgement that is told
-judgement_status : (judgement : Result Level ConfirmError) (r : Reply) → TellsJudgement judgement r → status_of r ≡ (if is_ok judgement then 0 else 2)
+judgement_status : (judgement : Result Level ConfirmError) (r : Reply) → TellsJudgement judgement r
+    → status_of r ≡ (if is_ok judgement then 0 else 2)
 judgement_status (Ok level) r tells = ap (λ x. status_of x) tells
 judgement_status (Err (confirm.Refused offset why)) r tells = ap (λ x. status_of x) tells
 judgement_status (Err confirm.NoMemory) r tells = absurd tells
@@ -41,12 +43,15 @@ module _ (texts_are_read : (bytes : List ℕ) (f : Function) → IsTextOf bytes 
   pub confirm_judged :
       (words : List (List ℕ)) (holds : List ℕ → Option (List ℕ)) (status : ℕ) (IsWritten : List ℕ → Type 0)
       → IsAnswered words holds status IsWritten → IsConfirmJudgedAs words holds status
-  confirm_judged words holds status IsWritten (r, reply, steady, is, written) name proof_name bytes proof f named told proof_told small text within =
+  confirm_judged words holds status IsWritten (r, reply, steady, is, written) name proof_name bytes proof f named told
+      proof_told small text within =
       let gives = reply_to_asked words holds r (Confirm name proof_name) named reply in
       let got : IsReplyToConfirmed f (holds proof_name) r =
-      gets (holds name) bytes f told small (texts_are_read bytes f text) First (λ g. IsReplyToConfirmed g (holds proof_name) r) r gives in
+      gets (holds name) bytes f told small (texts_are_read bytes f text) First
+      (λ g. IsReplyToConfirmed g (holds proof_name) r) r gives in
       let same : take (limit_of files.Proof) got.0 ≡ proof =
-      ap (λ (l : List ℕ). take (limit_of files.Proof) l) (got.1 proof proof_told) ∙ take_all (limit_of files.Proof) proof within in
+      ap (λ (l : List ℕ). take (limit_of files.Proof) l) (got.1 proof proof_told)
+      ∙ take_all (limit_of files.Proof) proof within in
       is ∙ by_reply f (holds proof_name) proof got.0 r proof_told within
       (subst (λ (b : List ℕ). IsReplyToJudged (holds proof_name) got.0 (judgement_of f b) r) same got.2)
     where
@@ -54,7 +59,8 @@ module _ (texts_are_read : (bytes : List ℕ) (f : Function) → IsTextOf bytes 
           (f : Function) (told : Option (List ℕ)) (proof contents : List ℕ) (r : Reply) → told ≡ Some proof
           → length proof ≤ limit_of files.Proof → IsReplyToJudged told contents (judgement_of f proof) r
           → status_of r ≡ (if is_ok (judgement_of f proof) then 0 else 2)
-      by_reply f told proof contents r is within (inl longer) = absurd (let more = longer.1.0 proof is in omega (arith, more, within))
+      by_reply f told proof contents r is within (inl longer) =
+          absurd (let more = longer.1.0 proof is in omega (arith, more, within))
       by_reply f told proof contents r is within (inr h) = judgement_status (judgement_of f proof) r h.1
 
 -- what a confirmed proof shows of a function that was read
@@ -84,14 +90,17 @@ confirmed_bytes f contents (Err confirm.NoMemory) r zero is within tells = absur
 
 file_confirmed :
     (f : Function) (told : Option (List ℕ)) (r : Reply) → 0 ≡ status_of r → IsReplyToConfirmed f told r
-    → (level : Level) × (contents : List ℕ) × ForSome told (λ known. contents ≡ known) × (judgement_of f contents ≡ Ok level)
+    → (level : Level) × (contents : List ℕ) × ForSome told (λ known. contents ≡ known)
+    × (judgement_of f contents ≡ Ok level)
     × (r ≡ replies.Confirmed level)
 file_confirmed f told r zero (contents, are, inl longer) = absurd (not_too_long r zero files.Proof told longer.1)
 file_confirmed f told r zero (contents, are, inr h) =
-    let found = confirmed_bytes f contents (judgement_of f (take (limit_of files.Proof) contents)) r zero refl h.0 h.1 in
+    let found = confirmed_bytes f contents
+    (judgement_of f (take (limit_of files.Proof) contents)) r zero refl h.0 h.1 in
     (found.0, contents, are, found.1, found.2)
 
-module _ (has_level : (f : Function) (bytes : List ℕ) (level : Level) → judgement_of f bytes ≡ Ok level → HasLevel f level)
+module _ (has_level : (f : Function) (bytes : List ℕ) (level : Level)
+    → judgement_of f bytes ≡ Ok level → HasLevel f level)
     (is_text : (bytes : List ℕ) (f : Function) → function_in bytes ≡ Ok f → IsTextOf bytes f) where
   -- status 0 of `confirm`: the proof shows what its level says
   pub confirmed :
@@ -121,7 +130,8 @@ module _ (has_level : (f : Function) (bytes : List ℕ) (level : Level) → judg
 
 -- the reply to a judgement of a told file is one
 judged_once :
-    (judgement : Result Level ConfirmError) (r s : Reply) → TellsJudgement judgement r → TellsJudgement judgement s → r ≡ s
+    (judgement : Result Level ConfirmError) (r s : Reply) → TellsJudgement judgement r
+    → TellsJudgement judgement s → r ≡ s
 judged_once (Ok level) r s first second = first ∙ sym second
 judged_once (Err (confirm.Refused offset why)) r s first second = first ∙ sym second
 judged_once (Err confirm.NoMemory) r s first second = absurd first
@@ -142,8 +152,10 @@ proof_replied_once :
     → IsReplyToConfirmed f told r → IsReplyToConfirmed f told s → r ≡ s
 proof_replied_once f told proof r s is (contents, known, reply) (others, also, said) =
     replied_once proof told (judgement_of f (take (limit_of files.Proof) proof)) r s is
-    (subst (λ (l : List ℕ). IsReplyToJudged told l (judgement_of f (take (limit_of files.Proof) l)) r) (known proof is) reply)
-    (subst (λ (l : List ℕ). IsReplyToJudged told l (judgement_of f (take (limit_of files.Proof) l)) s) (also proof is) said)
+    (subst (λ (l : List ℕ). IsReplyToJudged told l (judgement_of f (take (limit_of files.Proof) l)) r) (known proof is)
+    reply)
+    (subst (λ (l : List ℕ). IsReplyToJudged told l (judgement_of f (take (limit_of files.Proof) l)) s) (also proof is)
+    said)
 
 -- the reply to a function and a proof whose files are told is one
 pub confirm_replied_once :

@@ -1,6 +1,7 @@
 -- What the statuses of `explain` show, from its replies.
-use Rattle.std.proofs.Common.{◌⊎◌, ◌≡◌, ◌≢◌, ℕ, ◌≤◌, List, length, Option, Some, Result, Ok, IsTrue, refl, sym, ap, ◌∙◌, subst, inl, inr, arith}
-use Rattle.fn_moves.specs.declared.fault.TextFault.{TextFault}
+use Rattle.std.proofs.Common.{◌⊎◌, ◌≡◌, ◌≢◌, ℕ, ◌≤◌, List, length, Option, Some, Result, Ok, IsTrue, refl, sym, ap, ◌∙◌}
+use Rattle.std.proofs.Common.{subst, inl, inr, arith}
+use Rattle.fn_tokens.specs.declared.fault.TextFault.{TextFault}
 use Rattle.fn_rules.specs.declared.function.Level.{Level}
 use Rattle.fn_rules.specs.declared.function.ObName.{ObName}
 use Rattle.fn_rules.specs.Functions.{Function}
@@ -26,12 +27,13 @@ use Rattle.ot_replies.specs.Limits.{limit_of}
 use Rattle.ot_replies.specs.Texts.{status_of, text_of}
 use Rattle.ot_words.specs.Commands.{Explain}
 use Rattle.ot_words.specs.Words.{most_questions}
-use Rattle.ot_commands.specs.Explain.{ExplainsCounter, ExplainsSettled, ExplainsVerdict, IsReplyToExplained, IsReplyToRead, IsReplyToText}
-use Rattle.ot_commands.specs.Explain.{steps_of, unsettled_by}
+use Rattle.ot_commands.specs.Explain.{ExplainsCounter, ExplainsSettled, ExplainsVerdict, IsReplyToExplained}
+use Rattle.ot_commands.specs.Explain.{IsReplyToRead, IsReplyToText, steps_of, unsettled_by}
 use Rattle.ot_commands.specs.Load.{IsReplyToFile}
 use Rattle.ot_commands.specs.Prove.{TellsCounter}
 use Rattle.ot_top.specs.Evidence.{Certificate, Evidence, Proof, IsEvidence}
-use Rattle.ot_top.specs.Explained.{HasManyQuestions, IsExplained, IsExplainedBroken, IsExplainedHolding, IsExplainedOpen, IsGround}
+use Rattle.ot_top.specs.Explained.{HasManyQuestions, IsExplained, IsExplainedBroken, IsExplainedHolding}
+use Rattle.ot_top.specs.Explained.{IsExplainedOpen, IsGround}
 use Rattle.ot_top.specs.Shown.{HasLevel}
 use Rattle.ot_top.proofs.Breaking.{IsBrokenBy}
 use Rattle.ot_top.proofs.Proving.{Gets, reply_to_asked}
@@ -39,14 +41,17 @@ use Rattle.ot_top.proofs.Told.{IsAnswered}
 
 -- the bytes of a told file within its limit get the reply
 pub bytes_get :
-    (told : Option (List ℕ)) (bytes : List ℕ) (BytesGet : List ℕ → Type 0) (r : Reply) → told ≡ Some bytes → length bytes ≤ limit_of files.Function
+    (told : Option (List ℕ)) (bytes : List ℕ) (BytesGet : List ℕ → Type 0) (r : Reply) → told ≡ Some bytes
+    → length bytes ≤ limit_of files.Function
     → IsReplyToFile files.Function told BytesGet r → BytesGet bytes
-bytes_get told bytes BytesGet r is small (inl longer) = absurd (let more = longer.0 bytes is in omega (arith, more, small))
+bytes_get told bytes BytesGet r is small (inl longer) =
+    absurd (let more = longer.0 bytes is in omega (arith, more, small))
 bytes_get told bytes BytesGet r is small (inr (held, holds, got)) = subst BytesGet (holds.1 bytes is) got
 
 -- the reply to a text is the one that it gets as what it is read as
 pub text_gets :
-    (level : Level) (bytes : List ℕ) (read : Result Function TextFault) (r : Reply) → function_in bytes ≡ read → IsReplyToText level bytes r
+    (level : Level) (bytes : List ℕ) (read : Result Function TextFault) (r : Reply) → function_in bytes ≡ read
+    → IsReplyToText level bytes r
     → IsReplyToRead level bytes read r
 unfolding IsReplyToText
 text_gets level bytes read r is got = subst (λ (x : Result Function TextFault). IsReplyToRead level bytes x r) is got
@@ -55,24 +60,29 @@ text_gets level bytes read r is got = subst (λ (x : Result Function TextFault).
 other_than : (r named : Reply) → r ≡ named → status_of named ≢ 3 → status_of r ≢ 3
 other_than r named same other is = other (sym (ap (λ x. status_of x) same) ∙ is)
 
-counter_other : (f : Function) (ob : ObName) (answers : List Answer) (why : Why) (r : Reply) → ExplainsCounter f ob answers why r → status_of r ≢ 3
+counter_other : (f : Function) (ob : ObName) (answers : List Answer) (why : Why) (r : Reply)
+    → ExplainsCounter f ob answers why r → status_of r ≢ 3
 counter_other f ob answers why r explains = other_than r _ explains.2 (λ is. absurd (omega (arith, is)))
 
-settled_other : (f : Function) (level : Level) (settled : Settled) (r : Reply) → ExplainsSettled f level settled r → status_of r ≢ 3
+settled_other : (f : Function) (level : Level) (settled : Settled) (r : Reply)
+    → ExplainsSettled f level settled r → status_of r ≢ 3
 settled_other f level (outcomes.Yes bytes) r same = other_than r _ same (λ is. absurd (omega (arith, is)))
 settled_other f level (outcomes.No ob answers why) r explains = counter_other f ob answers.items why r explains
 settled_other f level (outcomes.Spent cause) r same = other_than r _ same (λ is. absurd (omega (arith, is)))
 
-verdict_other : (f : Function) (level : Level) (verdict : Verdict) (r : Reply) → ExplainsVerdict f level verdict r → status_of r ≢ 3
+verdict_other : (f : Function) (level : Level) (verdict : Verdict) (r : Reply)
+    → ExplainsVerdict f level verdict r → status_of r ≢ 3
 verdict_other f level (verdicts.Yes bytes asked) r same = other_than r _ same (λ is. absurd (omega (arith, is)))
 verdict_other f level (verdicts.No ob answers why) r explains = counter_other f ob answers.items why r explains
-verdict_other f level verdicts.Spent r (settled, asked, over, written, is_settled, caused, explains) = settled_other f level settled r explains
+verdict_other f level verdicts.Spent r (settled, asked, over, written, is_settled, caused, explains) =
+    settled_other f level settled r explains
 
 -- a text that is read gets another status, and one that is refused gets this one
 pub read_other : (f : Function) (level : Level) (r : Reply) → IsReplyToExplained f level r → status_of r ≢ 3
 read_other f level r (verdict, decided, explains) = verdict_other f level verdict r explains
 
-module _ (has_level : (e : Evidence) (bytes : List ℕ) (f : Function) (level : Level) → IsEvidence e bytes f level → HasLevel f level)
+module _ (has_level : (e : Evidence) (bytes : List ℕ) (f : Function) (level : Level)
+    → IsEvidence e bytes f level → HasLevel f level)
     (counter_found :
     (e : Evidence) (f : Function) (level : Level) (budget : ℕ) (r : Reply) → 1 ≡ status_of r → IsTrue (is_valid f)
     → Gets e f level budget r → (counter : Counter) × IsBrokenBy f level counter × (r ≡ Broken counter))
@@ -92,23 +102,33 @@ module _ (has_level : (e : Evidence) (bytes : List ℕ) (f : Function) (level : 
   -- the level is shown
   holding : (basis : Ground) → HasLevel f level → IsGround f level basis → r ≡ Explained (Holds level basis) → Shows
   holding basis has grounded same =
-      inl (basis, status_as (Explained (Holds level basis)) same, has, grounded, written_as (Explained (Holds level basis)) same)
+      inl (
+        basis,
+        status_as (Explained (Holds level basis)) same,
+        has,
+        grounded,
+        written_as (Explained (Holds level basis)) same,
+      )
 
   -- the counterexample is that which `prove` or `settle` would write
   broken :
       (e : Evidence) (ob : ObName) (answers : List Answer) (why : Why) → ExplainsCounter f ob answers why r
-      → ((counter : Counter) → TellsCounter f ob answers why (Broken counter) → Gets e f level most_questions (Broken counter)) → Shows
+      → ((counter : Counter) → TellsCounter f ob answers why (Broken counter)
+      → Gets e f level most_questions (Broken counter)) → Shows
   broken e ob answers why (counter, of_answers, same) gets =
-      let found = counter_found e f level most_questions (Broken counter) refl valid (gets counter (counter, of_answers, refl)) in
+      let found = counter_found e f level most_questions (Broken counter) refl valid
+      (gets counter (counter, of_answers, refl)) in
       let one : found.0 ≡ counter = let named = found.2 in cc in
       let by : IsBrokenBy f level counter = subst (λ (c : Counter). IsBrokenBy f level c) one found.1 in
       let other : Reply = Explained (Breaks counter (steps_of f counter)) in
       inr (inl (counter, status_as other same, by.0, by.1, by.2, by.3, by.4, written_as other same))
 
   -- by what settling came to, where `prove` asked too much
-  settled : (many : HasManyQuestions f level) (settled : Settled) → IsSettled f level settled → ExplainsSettled f level settled r → Shows
+  settled : (many : HasManyQuestions f level) (settled : Settled) → IsSettled f level settled
+      → ExplainsSettled f level settled r → Shows
   settled many (outcomes.Yes bytes) shown same =
-      holding (grounds.Proof (length bytes.items)) (has_level Proof bytes.items f level shown.judged) (bytes.items, shown.judged, refl) same
+      holding (grounds.Proof (length bytes.items)) (has_level Proof bytes.items f level shown.judged)
+      (bytes.items, shown.judged, refl) same
   settled many (outcomes.No ob answers why) refuted explains =
       broken Proof ob answers.items why explains (λ counter tells. (outcomes.No ob answers why, refuted, tells))
   settled many (outcomes.Spent cause) said same =
@@ -116,13 +136,21 @@ module _ (has_level : (e : Evidence) (bytes : List ℕ) (f : Function) (level : 
       inr (inr (unsettled_by cause, status_as other same, many, written_as other same))
 
   -- by the verdict
-  by_verdict : (verdict : Verdict) → IsDecidedAs f level most_questions verdict → ExplainsVerdict f level verdict r → Shows
+  by_verdict : (verdict : Verdict) → IsDecidedAs f level most_questions verdict
+      → ExplainsVerdict f level verdict r → Shows
   by_verdict (verdicts.Yes bytes asked) decided same =
       let proof = decided.2.2 in
-      holding (grounds.Questions asked) (has_level Certificate bytes.items f level (proof.trees, proof.fit, proof.text))
-      (decided.0, decided.1, decided.2.1, proof.counted, subst (λ (n : ℕ). n ≤ most_questions) (sym proof.counted) decided.2.0) same
+      holding (grounds.Questions asked)
+      (has_level Certificate bytes.items f level (proof.trees, proof.fit, proof.text)) (
+        decided.0,
+        decided.1,
+        decided.2.1,
+        proof.counted,
+        subst (λ (n : ℕ). n ≤ most_questions) (sym proof.counted) decided.2.0,
+      ) same
   by_verdict (verdicts.No ob answers why) decided explains =
-      broken Certificate ob answers.items why explains (λ counter tells. (verdicts.No ob answers why, decided, λ _. tt, tells))
+      broken Certificate ob answers.items why explains
+      (λ counter tells. (verdicts.No ob answers why, decided, λ _. tt, tells))
   by_verdict verdicts.Spent decided (settlement, asked, over, written_bytes, is_settled, caused, explains) =
       settled (decided.0, decided.1, decided.2) settlement is_settled explains
 
@@ -137,9 +165,10 @@ pub explained :
     → ((bytes : List ℕ) (f : Function) → IsTextOf bytes f → IsTrue (is_valid f))
     → (words : List (List ℕ)) (holds : List ℕ → Option (List ℕ)) (status : ℕ) (IsWritten : List ℕ → Type 0)
     → IsAnswered words holds status IsWritten → IsExplained words holds IsWritten status
-explained has_level counter_found is_read is_within_limits words holds status IsWritten (r, reply, steady, is, written) level name bytes f named told
-    small text =
+explained has_level counter_found is_read is_within_limits words holds status IsWritten (r, reply, steady, is, written)
+    level name bytes f named told small text =
     let got : IsReplyToText level bytes r =
-    bytes_get (holds name) bytes (λ b. IsReplyToText level b r) r told small (reply_to_asked words holds r (Explain level name) named reply) in
+    bytes_get (holds name) bytes (λ b. IsReplyToText level b r) r told small
+    (reply_to_asked words holds r (Explain level name) named reply) in
     explained_so has_level counter_found f level (is_within_limits bytes f text) r status IsWritten is written
     (text_gets level bytes (Ok f) r (is_read bytes f text) got)

@@ -1,5 +1,6 @@
 -- Status 0 of `hub` is that of a hub whose events were all done, and calls that were done lead to it.
-use Rattle.std.proofs.Common.{◌≡◌, ℕ, ◌+◌, false, List, [], ◌∷◌, Option, Some, None, Result, Ok, Err, refl, ap, ◌∙◌, subst, inl, inr, arith}
+use Rattle.std.proofs.Common.{◌≡◌, ℕ, ◌+◌, false, List, [], ◌∷◌, Option, Some, None, Result, Ok, Err, refl, ap, ◌∙◌}
+use Rattle.std.proofs.Common.{subst, inl, inr, arith}
 use Rattle.ot_model.specs.declared.cell.Cell.{Cell}
 use Rattle.fn_rules.specs.Functions.{Function}
 use Rattle.fn_rules.specs.Properties.{HasTp1}
@@ -26,8 +27,8 @@ use Rattle.ot_replies.specs.declared.reply.Reply.TheVariants.{CaseRefused, Event
 use Rattle.ot_replies.specs.declared.reply.Subject.TheVariants.{First}
 use Rattle.ot_replies.specs.Texts.{differ_status, status_of, text_of}
 use Rattle.ot_words.specs.Commands.{Hub}
-use Rattle.ot_commands.specs.Hub.{IsDone, IsEndOf, IsRefusedHubEvent, IsReplyToHub, IsReplyToHubFile, IsReplyToHubScript, Runs, TellsHub}
-use Rattle.ot_commands.specs.Hub.{TellsNotEdited, TellsNotMoved}
+use Rattle.ot_commands.specs.Hub.{IsDone, IsEndOf, IsRefusedHubEvent, IsReplyToHub, IsReplyToHubFile}
+use Rattle.ot_commands.specs.Hub.{IsReplyToHubScript, Runs, TellsHub, TellsNotEdited, TellsNotMoved}
 use Rattle.ot_commands.specs.Load.{Holds, IsReadAs, IsReplyToFunction}
 use Rattle.ot_commands.specs.Replies.{IsReply}
 use Rattle.ot_top.specs.Followed.{EventsLeadTo, IsFollowed, IsHubAfter}
@@ -40,7 +41,8 @@ next_of hub next (events.Edit c o) done = inl (c, o, done)
 next_of hub next (events.Up c) (m, done) = inr (inl (c, m, done))
 next_of hub next (events.Down c) (m, done) = inr (inr (c, m, done))
 
-calls_of : (hub : HubData) (list : List HubEvent) (last : HubData) → EventsLeadTo hub list last → (hubs : List HubData) × LeadTo hub hubs last
+calls_of : (hub : HubData) (list : List HubEvent) (last : HubData) → EventsLeadTo hub list last
+    → (hubs : List HubData) × LeadTo hub hubs last
 calls_of hub [] last is = ([], is)
 calls_of hub (event ∷ others) last (next, done, rest) =
     let more = calls_of next others last rest in (next ∷ more.0, (next_of hub next event done, more.1))
@@ -59,12 +61,15 @@ told_end hub r is = absurd is
 module _ (r : Reply) (is_zero : 0 ≡ status_of r) where
   case_not_refused : (fault : CaseFault) → r ≡ CaseRefused fault → ⊥
   case_not_refused faults.Json is = other_status r (CaseRefused faults.Json) 4 is_zero is refl (omega arith)
-  case_not_refused (faults.Field name) is = other_status r (CaseRefused (faults.Field name)) 4 is_zero is refl (omega arith)
+  case_not_refused (faults.Field name) is =
+      other_status r (CaseRefused (faults.Field name)) 4 is_zero is refl (omega arith)
   case_not_refused (faults.Kind i) is = other_status r (CaseRefused (faults.Kind i)) 4 is_zero is refl (omega arith)
-  case_not_refused (faults.Enabled i) is = other_status r (CaseRefused (faults.Enabled i)) 4 is_zero is refl (omega arith)
+  case_not_refused (faults.Enabled i) is =
+      other_status r (CaseRefused (faults.Enabled i)) 4 is_zero is refl (omega arith)
   case_not_refused (faults.Pair i j) is = other_status r (CaseRefused (faults.Pair i j)) 4 is_zero is refl (omega arith)
   case_not_refused (faults.Order i) is = other_status r (CaseRefused (faults.Order i)) 4 is_zero is refl (omega arith)
-  case_not_refused (faults.Limit name) is = other_status r (CaseRefused (faults.Limit name)) 9 is_zero is refl (omega arith)
+  case_not_refused (faults.Limit name) is =
+      other_status r (CaseRefused (faults.Limit name)) 9 is_zero is refl (omega arith)
 
   edit_not_refused : (i : ℕ) (reason : Edit) → TellsNotEdited i reason r → ⊥
   edit_not_refused i edits.NoSite is = other_status r (EventRefused i why.Site) 4 is_zero is refl (omega arith)
@@ -85,7 +90,8 @@ module _ (r : Reply) (is_zero : 0 ≡ status_of r) where
   event_not_refused hub i (events.Down c) (reason, new, refused, tells) = move_not_refused i reason tells
 
   -- so all events were done, and the reply tells the hub after the last of them
-  all_done : (hub : HubData) (i : ℕ) (list : List HubEvent) → Runs hub i list r → (last : HubData) × EventsLeadTo hub list last × TellsHub last r
+  all_done : (hub : HubData) (i : ℕ) (list : List HubEvent) → Runs hub i list r
+      → (last : HubData) × EventsLeadTo hub list last × TellsHub last r
   all_done hub i [] tells = (hub, refl, tells)
   all_done hub i (event ∷ others) (inl refused) = absurd (event_not_refused hub i event refused)
   all_done hub i (event ∷ others) (inr (next, done, rest)) =
@@ -96,7 +102,8 @@ module _ (r : Reply) (is_zero : 0 ≡ status_of r) where
       × EventsLeadTo (begun_hub f script.doc script.clients) script.events last × TellsHub last r
   script_done f (Err fault) is = absurd (case_not_refused fault is)
   script_done f (Ok script) runs =
-      let done = all_done (begun_hub f script.doc script.clients) 0 script.events runs in (script, done.0, refl, done.1, done.2)
+      let done = all_done (begun_hub f script.doc script.clients) 0 script.events runs in
+      (script, done.0, refl, done.1, done.2)
 
   bytes_done : (f : Function) (bytes : List ℕ) → IsReplyToHub f bytes r
       → (script : HubScript) × (last : HubData) × (hub_script_in bytes ≡ Ok script)
@@ -115,10 +122,13 @@ module _ (r : Reply) (is_zero : 0 ≡ status_of r) where
   function_done first second (inr read) = read
 
 module _ (is_text : (bytes : List ℕ) (f : Function) → function_in bytes ≡ Ok f → IsTextOf bytes f)
-    (log : (f : Function) (d : List Cell) (clients : ℕ) (hubs : List HubData) (hub : HubData) → LeadTo (begun_hub f d clients) hubs hub → KeepsLog f d hub)
-    (clients : (f : Function) (d : List Cell) (clients : ℕ) (hubs : List HubData) (hub : HubData) → LeadTo (begun_hub f d clients) hubs hub → HasTp1 f
+    (log : (f : Function) (d : List Cell) (clients : ℕ) (hubs : List HubData) (hub : HubData)
+    → LeadTo (begun_hub f d clients) hubs hub → KeepsLog f d hub)
+    (clients : (f : Function) (d : List Cell) (clients : ℕ) (hubs : List HubData) (hub : HubData)
+    → LeadTo (begun_hub f d clients) hubs hub → HasTp1 f
     → f.head.chars_differ ≡ false → FollowsLog hub) where
-  hub_after : (f : Function) (script : HubScript) (hub : HubData) → EventsLeadTo (begun_hub f script.doc script.clients) script.events hub
+  hub_after : (f : Function) (script : HubScript) (hub : HubData)
+      → EventsLeadTo (begun_hub f script.doc script.clients) script.events hub
       → IsHubAfter f script hub
   hub_after f script hub led =
       let calls = calls_of (begun_hub f script.doc script.clients) script.events hub led in
@@ -133,7 +143,8 @@ module _ (is_text : (bytes : List ℕ) (f : Function) → function_in bytes ≡ 
       (words : List (List ℕ)) (holds : List ℕ → Option (List ℕ)) (r : Reply) (IsWritten : List ℕ → Type 0)
       → 0 ≡ status_of r → IsReply words holds r → IsWritten (text_of r) → IsFollowed words holds IsWritten
   followed words holds r IsWritten is_zero reply written name hub_name named =
-      let of_function = function_done r is_zero (holds name) (holds hub_name) (reply_to_asked words holds r (Hub name hub_name) named reply) in
+      let of_function = function_done r is_zero (holds name) (holds hub_name)
+      (reply_to_asked words holds r (Hub name hub_name) named reply) in
       let f : Function = of_function.0 in
       let of_file = file_done r is_zero f (holds hub_name) of_function.2 in
       let done = bytes_done r is_zero f of_file.0 of_file.2 in

@@ -7,7 +7,8 @@ use Rattle.ot_least.specs.declared.short.Short.TheVariants as shorts
 use Rattle.ot_least.specs.Shortest.{IsShort}
 use Rattle.ot_replies.specs.declared.reply.FileKind.TheVariants as files
 use Rattle.ot_replies.specs.declared.reply.Reply.{Reply}
-use Rattle.ot_replies.specs.declared.reply.Reply.TheVariants.{BoundTooLong, Certified, FunctionRefused, Shortest, Spent, TooLong, Unbroken}
+use Rattle.ot_replies.specs.declared.reply.Reply.TheVariants.{BoundTooLong, Certified, FunctionRefused, Shortest, Spent}
+use Rattle.ot_replies.specs.declared.reply.Reply.TheVariants.{TooLong, Unbroken}
 use Rattle.ot_replies.specs.declared.reply.Subject.TheVariants.{First}
 use Rattle.ot_words.specs.Commands.{Least}
 use Rattle.ot_words.specs.Words.{most_questions}
@@ -17,12 +18,15 @@ use Rattle.ot_commands.specs.Replies.{IsReplyTo}
 
 -- a function that is refused gets another reply
 refused_otherwise : (told : Option (List ℕ)) (r : Reply) → IsFunctionRefusal First told r → r ≡ BoundTooLong → ⊥
-refused_otherwise told r (inl longer) is = absurd (let not : TooLong files.Function ≡ BoundTooLong = sym longer.1 ∙ is in cc)
-refused_otherwise told r (inr fault) is = absurd (let not : FunctionRefused First fault.0 ≡ BoundTooLong = sym fault.2 ∙ is in cc)
+refused_otherwise told r (inl longer) is =
+    absurd (let not : TooLong files.Function ≡ BoundTooLong = sym longer.1 ∙ is in cc)
+refused_otherwise told r (inr fault) is =
+    absurd (let not : FunctionRefused First fault.0 ≡ BoundTooLong = sym fault.2 ∙ is in cc)
 
 module _ (f : Function) (never : (short : Short) → IsShort f most_questions short → short ≡ shorts.TooLong → ⊥) where
   told_otherwise :
-      (cert : Bool) (short : Short) (r : Reply) → IsShort f most_questions short → TellsShort f cert short r → r ≡ BoundTooLong → ⊥
+      (cert : Bool) (short : Short) (r : Reply) → IsShort f most_questions short
+      → TellsShort f cert short r → r ≡ BoundTooLong → ⊥
   told_otherwise cert shorts.Fine r sought tells is = absurd (let not : Unbroken ≡ BoundTooLong = sym tells ∙ is in cc)
   told_otherwise true (shorts.Least ob answers why cells bytes) r sought tells is =
       absurd (let not : Certified bytes.items ≡ BoundTooLong = sym tells ∙ is in cc)
@@ -36,6 +40,7 @@ pub never_too_long :
     → short ≡ shorts.TooLong → ⊥)
     → (holds : List ℕ → Option (List ℕ)) (cert : Bool) (name bytes : List ℕ) (r : Reply) → holds name ≡ Some bytes
     → IsReplyTo holds (Least cert name) r → r ≢ BoundTooLong
-never_too_long never holds cert name bytes r told (inl refused) is = absurd (refused_otherwise (holds name) r refused is)
+never_too_long never holds cert name bytes r told (inl refused) is =
+    absurd (refused_otherwise (holds name) r refused is)
 never_too_long never holds cert name bytes r told (inr (f, read, (short, sought, so, within, tells))) is =
     told_otherwise f (λ s h. never f bytes s (read bytes told).1 h) cert short r sought tells is

@@ -1,5 +1,6 @@
 -- The reply of `drill` is told by its number.
-use Rattle.std.proofs.Common.{◌≡◌, ◌≢◌, ℕ, List, [], ◌∷◌, ◌++◌, length, map, Option, Result, Ok, Err, refl, sym, ap, ◌∙◌, subst, inl, inr, arith}
+use Rattle.std.proofs.Common.{◌≡◌, ◌≢◌, ℕ, List, [], ◌∷◌, ◌++◌, length, map, Option, Result, Ok, Err, refl, sym, ap}
+use Rattle.std.proofs.Common.{◌∙◌, subst, inl, inr, arith}
 use Rattle.std.proofs.lemmas.List.{append_assoc, append-nil}
 use Rattle.ot_model.specs.declared.cell.Cell.{Cell}
 use Rattle.ot_model.specs.declared.op.Op.{Op}
@@ -34,11 +35,13 @@ use Rattle.ot_top.proofs.OneReply.{first_pair_one, taken_is_no_refusal}
 -- the events are done one after the other from a session and a count on, which are these two in the end
 abbrev Plays : View → Tally → List Event → View → Tally → Type 0
 Plays v t [] w u = (w ≡ v) × (u ≡ t)
-Plays v t (event ∷ events) w u = (mid : View) × (count : Tally) × IsPlayed v t event mid count × Plays mid count events w u
+Plays v t (event ∷ events) w u =
+    (mid : View) × (count : Tally) × IsPlayed v t event mid count × Plays mid count events w u
 
 -- events that were done with those that follow them, as one from the start
 plays_on :
-    (begun : View) (events : List Event) (v : View) (t : Tally) → ArePlayed begun events v t → (more : List Event) (w : View) (u : Tally)
+    (begun : View) (events : List Event) (v : View) (t : Tally) → ArePlayed begun events v t
+    → (more : List Event) (w : View) (u : Tally)
     → Plays v t more w u → Plays begun nothing_done (events ++ more) w u
 plays_on begun _ _ _ start more w u rest = rest
 plays_on begun _ _ _ (then events mid new tally new_tally event played one) more w u rest =
@@ -46,13 +49,16 @@ plays_on begun _ _ _ (then events mid new tally new_tally event played one) more
     (plays_on begun events mid tally played (event ∷ more) w u (new, new_tally, one, rest))
 
 -- so all that were done are done from the start
-plays_all : (begun : View) (events : List Event) (v : View) (t : Tally) → ArePlayed begun events v t → Plays begun nothing_done events v t
+plays_all : (begun : View) (events : List Event) (v : View) (t : Tally) → ArePlayed begun events v t
+    → Plays begun nothing_done events v t
 plays_all begun events v t played =
-    subst (λ (l : List Event). Plays begun nothing_done l v t) (append-nil events) (plays_on begun events v t played [] v t (refl, refl))
+    subst (λ (l : List Event). Plays begun nothing_done l v t) (append-nil events)
+    (plays_on begun events v t played [] v t (refl, refl))
 
 -- what came of a workload is one where its parts are
 parts_once :
-    (a b : Drilled) → a.number ≡ b.number → a.cases ≡ b.cases → a.level ≡ b.level → a.tally ≡ b.tally → a.cells ≡ b.cells
+    (a b : Drilled) → a.number ≡ b.number → a.cases ≡ b.cases → a.level ≡ b.level
+    → a.tally ≡ b.tally → a.cells ≡ b.cells
     → a.differ ≡ b.differ → a ≡ b
 parts_once a b number cases level tally cells differ = λ i. record {
   number = number i;
@@ -63,16 +69,20 @@ parts_once a b number cases level tally cells differ = λ i. record {
   differ = differ i;
 }
 
--- Facts of sessions and of questions that come with their laws: what begins, what is made, what is taken and what is asked is one.
+-- Facts of sessions and of questions that come with their laws: what begins,
+-- what is made, what is taken and what is asked is one.
 module _ (begin_as_one :
-    (f : Function) (d : List Cell) (sites : ℕ) (one other : View) → IsBegun f d sites one → IsBegun f d sites other → one ≡ other)
+    (f : Function) (d : List Cell) (sites : ℕ) (one other : View) → IsBegun f d sites one
+    → IsBegun f d sites other → one ≡ other)
     (one_outcome :
-    (old one other : View) (t n m : ℕ) (o : Op) → HasMade old one t o n → HasMade old other t o m → (n ≡ m) × (one ≡ other))
+    (old one other : View) (t n m : ℕ) (o : Op) → HasMade old one t o n → HasMade old other t o m
+    → (n ≡ m) × (one ≡ other))
     (one_answer :
     (old one other : View) (t n : ℕ) (a b : Result Took NotTaken) → HasTaken old one t n a → HasTaken old other t n b
     → a ≢ Err takes.NoMemory → b ≢ Err takes.NoMemory → a ≡ b)
     (one_session :
-    (old one other : View) (t n : ℕ) (took : Took) → HasTaken old one t n (Ok took) → HasTaken old other t n (Ok took) → one ≡ other)
+    (old one other : View) (t n : ℕ) (took : Took) → HasTaken old one t n (Ok took)
+    → HasTaken old other t n (Ok took) → one ≡ other)
     (one_list :
     (f : Function) (obs : List ObName) (lists others : List (ObQuestions Why)) → AreAsked (plan_of f) obs lists
     → AreAsked (plan_of f) obs others → lists ≡ others) where
@@ -86,13 +96,15 @@ module _ (begin_as_one :
       let both : Ok too ≡ Ok took = one_answer v other one site number (Ok too) (Ok took) second first
       (taken_is_no_refusal too takes.NoMemory) (taken_is_no_refusal took takes.NoMemory) in
       let answer : too ≡ took = cc in (
-        one_session v one other site number took first (subst (λ (a : Took). HasTaken v other site number (Ok a)) answer second),
+        one_session v one other site number took first
+            (subst (λ (a : Took). HasTaken v other site number (Ok a)) answer second),
         is ∙ sym (ap (λ (a : Took). tally_with_answer t a) answer) ∙ sym same,
       )
 
   -- so are those behind events
   plays_once :
-      (v : View) (t : Tally) (events : List Event) (one other : View) (count another : Tally) → Plays v t events one count
+      (v : View) (t : Tally) (events : List Event) (one other : View) (count another : Tally)
+      → Plays v t events one count
       → Plays v t events other another → (one ≡ other) × (count ≡ another)
   plays_once v t [] one other count another first second = (first.0 ∙ sym second.0, first.1 ∙ sym second.1)
   plays_once v t (event ∷ events) one other count another (mid, sum, first, rest) (middle, total, second, more) =
@@ -119,7 +131,8 @@ module _ (begin_as_one :
 
   -- the reply to a workload with these questions is one
   questions_replied_once :
-      (n : ℕ) (lists : List (ObQuestions Why)) (r s : Reply) → IsReplyToQuestions n lists r → IsReplyToQuestions n lists s → r ≡ s
+      (n : ℕ) (lists : List (ObQuestions Why)) (r s : Reply) → IsReplyToQuestions n lists r
+      → IsReplyToQuestions n lists s → r ≡ s
   questions_replied_once n lists r s (inl (many, is)) (inl (_, same)) = is ∙ sym same
   questions_replied_once n lists r s (inl (many, is)) (inr (few, rest)) = absurd (omega (arith, many, few))
   questions_replied_once n lists r s (inr (few, rest)) (inl (many, is)) = absurd (omega (arith, many, few))
@@ -128,9 +141,11 @@ module _ (begin_as_one :
 
   -- the reply to the number of a workload is one
   pub drill_replied_once :
-      (holds : List ℕ → Option (List ℕ)) (number : ℕ) (r s : Reply) → IsReplyTo holds (Drill number) r → IsReplyTo holds (Drill number) s
+      (holds : List ℕ → Option (List ℕ)) (number : ℕ) (r s : Reply) → IsReplyTo holds (Drill number) r
+      → IsReplyTo holds (Drill number) s
       → r ≡ s
   drill_replied_once holds number r s (lists, asked, gets) (others, asked_too, others_get) =
       let same : others ≡ lists =
       one_list (drill_function number) (obligations_of (drill_function number).head Tp2) others lists asked_too asked in
-      questions_replied_once number lists r s gets (subst (λ (l : List (ObQuestions Why)). IsReplyToQuestions number l s) same others_get)
+      questions_replied_once number lists r s gets
+      (subst (λ (l : List (ObQuestions Why)). IsReplyToQuestions number l s) same others_get)

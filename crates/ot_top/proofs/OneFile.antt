@@ -1,7 +1,7 @@
 -- Two replies to a told file are one, or both come of what the file holds.
 use Rattle.std.proofs.Common.{◌≡◌, ℕ, List, length, Option, Some, Ok, Err, sym, ap, ◌∙◌, subst, inl, inr, arith}
 use Rattle.fn_rules.specs.Functions.{Function}
-use Rattle.fn_moves.specs.declared.fault.TextFault.{TextFault}
+use Rattle.fn_tokens.specs.declared.fault.TextFault.{TextFault}
 use Rattle.fn_text.specs.Reading.{function_in}
 use Rattle.ot_replies.specs.declared.reply.FileKind.{FileKind}
 use Rattle.ot_replies.specs.declared.reply.Reply.{Reply}
@@ -12,7 +12,8 @@ use Rattle.ot_commands.specs.Load.{IsReplyToFile, IsReplyToFunction}
 module _ (told : Option (List ℕ)) (bytes : List ℕ) (is_told : told ≡ Some bytes) where
   -- two replies to a function's file are one refusal, or both come of the one function that it holds
   pub function_once :
-      (subject : Subject) (Gets Others : Function → Type 0) (r s : Reply) (P : Type 0) → IsReplyToFunction subject told Gets r
+      (subject : Subject) (Gets Others : Function → Type 0) (r s : Reply) (P : Type 0)
+      → IsReplyToFunction subject told Gets r
       → IsReplyToFunction subject told Others s
       → (r ≡ s → P) → ((f : Function) → function_in bytes ≡ Ok f → Gets f → Others f → P) → P
   function_once subject Gets Others r s P (inl (inl (longer, is))) (inl (inl (_, same))) one both = one (is ∙ sym same)
@@ -47,8 +48,10 @@ module _ (told : Option (List ℕ)) (bytes : List ℕ) (is_told : told ≡ Some 
       → IsReplyToFile kind told Others s → (r ≡ s → P) → (Gets bytes → Others bytes → P) → P
   file_once kind Gets Others r s P (inl (longer, is)) (inl (_, same)) one both = one (is ∙ sym same)
   file_once kind Gets Others r s P (inl (longer, is)) (inr (held, (few, holds), gets)) one both =
-      absurd (let more = longer bytes is_told in let length_is = ap (λ (l : List ℕ). length l) (holds bytes is_told) in omega (arith, more, few, length_is))
+      absurd (let more = longer bytes is_told in let length_is = ap (λ (l : List ℕ). length l) (holds bytes is_told) in
+      omega (arith, more, few, length_is))
   file_once kind Gets Others r s P (inr (held, (few, holds), gets)) (inl (longer, same)) one both =
-      absurd (let more = longer bytes is_told in let length_is = ap (λ (l : List ℕ). length l) (holds bytes is_told) in omega (arith, more, few, length_is))
+      absurd (let more = longer bytes is_told in let length_is = ap (λ (l : List ℕ). length l) (holds bytes is_told) in
+      omega (arith, more, few, length_is))
   file_once kind Gets Others r s P (inr (held, (few, holds), gets)) (inr (other, (_, also), others)) one both =
       both (subst Gets (holds bytes is_told) gets) (subst Others (also bytes is_told) others)

@@ -1,5 +1,6 @@
 -- The reply to a certificate is told by its function and its bytes.
-use Rattle.std.proofs.Common.{◌≡◌, ◌≤◌, ℕ, List, length, take, Option, Some, Result, Ok, Err, IsTrue, sym, ◌∙◌, subst, inl, inr, arith}
+use Rattle.std.proofs.Common.{◌≡◌, ◌≤◌, ℕ, List, length, take, Option, Some, Result, Ok, Err, IsTrue, sym, ◌∙◌, subst}
+use Rattle.std.proofs.Common.{inl, inr, arith}
 use Rattle.fn_rules.specs.Functions.{Function}
 use Rattle.fn_text.specs.Reading.{function_in}
 use Rattle.refusals.specs.declared.refusal.JudgeError.{JudgeError}
@@ -14,7 +15,8 @@ use Rattle.ot_top.proofs.OneFile.{function_once}
 
 module _ {T : Type 0} (accepts : T → Reply) where
   -- what tells a judgement is one
-  judgement_told_once : (judgement : Result T JudgeError) (r s : Reply) → Tells accepts judgement r → Tells accepts judgement s → r ≡ s
+  judgement_told_once : (judgement : Result T JudgeError) (r s : Reply) → Tells accepts judgement r
+      → Tells accepts judgement s → r ≡ s
   judgement_told_once (Ok shown) r s first second = first ∙ sym second
   judgement_told_once (Err (judge.Refused offset why)) r s first second = first ∙ sym second
   judgement_told_once (Err judge.Failed) r s first second = absurd first
@@ -22,7 +24,8 @@ module _ {T : Type 0} (accepts : T → Reply) where
 
   -- a told file is not both longer than the limit and, where its judgement rests on its end, within it
   limit_or_end :
-      (certificate : List ℕ) (told : Option (List ℕ)) (judgement : Result T JudgeError) (r s : Reply) → told ≡ Some certificate
+      (certificate : List ℕ) (told : Option (List ℕ)) (judgement : Result T JudgeError) (r s : Reply)
+      → told ≡ Some certificate
       → IsTrue (rests_on_the_end judgement) → IsTooLong files.Certificate told r
       → ¬ (IsTrue (rests_on_the_end judgement) → length certificate ≤ limit_of files.Certificate)
   limit_or_end certificate told judgement r s is rests longer within =
@@ -30,8 +33,10 @@ module _ {T : Type 0} (accepts : T → Reply) where
 
   -- the reply to a judgement of a told file is one
   judgement_replied_once :
-      (certificate : List ℕ) (told : Option (List ℕ)) (judgement : Result T JudgeError) (r s : Reply) → told ≡ Some certificate
-      → IsReplyToJudgement accepts told certificate judgement r → IsReplyToJudgement accepts told certificate judgement s → r ≡ s
+      (certificate : List ℕ) (told : Option (List ℕ)) (judgement : Result T JudgeError) (r s : Reply)
+      → told ≡ Some certificate
+      → IsReplyToJudgement accepts told certificate judgement r
+      → IsReplyToJudgement accepts told certificate judgement s → r ≡ s
   judgement_replied_once certificate told judgement r s is (inl (rests, longer)) (inl (_, too)) = longer.1 ∙ sym too.1
   judgement_replied_once certificate told judgement r s is (inl (rests, longer)) (inr (within, tells)) =
       absurd (limit_or_end certificate told judgement r s is rests longer within)
@@ -64,7 +69,8 @@ module _ {T : Type 0} (accepts : T → Reply) where
       (Judges : Function → List ℕ → Result T JudgeError → Type 0) (bytes : List ℕ)
       → ((f : Function) → function_in bytes ≡ Ok f
       → (b : List ℕ) (one other : Result T JudgeError) → Judges f b one → Judges f b other → one ≡ other)
-      → (first second : Option (List ℕ)) (certificate : List ℕ) (r s : Reply) → first ≡ Some bytes → second ≡ Some certificate
+      → (first second : Option (List ℕ)) (certificate : List ℕ) (r s : Reply) → first ≡ Some bytes
+      → second ≡ Some certificate
       → IsReplyToFunction First first (λ f. IsReplyToCertificate (Judges f) accepts second r) r
       → IsReplyToFunction First first (λ f. IsReplyToCertificate (Judges f) accepts second s) s → r ≡ s
   both_replied_once Judges bytes one_judgement first second certificate r s told certificate_told one other =

@@ -1,5 +1,6 @@
 -- The replies to a case, to a session and to a hub are told by the function and the file.
-use Rattle.std.proofs.Common.{◌≡◌, ℕ, ◌↔◌, Bool, true, false, List, [], ◌∷◌, map, Option, Some, Result, Ok, Err, IsTrue, refl, sym, ap, ◌∙◌}
+use Rattle.std.proofs.Common.{◌≡◌, ℕ, ◌↔◌, Bool, true, false, List, [], ◌∷◌, map, Option, Some, Result, Ok, Err, IsTrue}
+use Rattle.std.proofs.Common.{refl, sym, ap, ◌∙◌}
 use Rattle.fn_rules.specs.Functions.{Function}
 use Rattle.fn_rules.specs.Orders.{Outcome}
 use Rattle.case_json.specs.declared.fault.CaseFault.{CaseFault}
@@ -46,12 +47,14 @@ same_truth false false there back = refl
 
 -- the reply that tells outcomes has ends with these outcomes, and says whether they are one
 integrated_reply : (outcomes : List Outcome) (r : Reply) → TellsOutcomes outcomes r
-    → (ends : List End) × (same : Bool) × (r ≡ Integrated ends same) × (map outcome_of ends ≡ outcomes) × (IsTrue same ↔ HaveOneEnd outcomes)
+    → (ends : List End) × (same : Bool) × (r ≡ Integrated ends same) × (map outcome_of ends ≡ outcomes)
+    × (IsTrue same ↔ HaveOneEnd outcomes)
 integrated_reply outcomes (Integrated ends same) tells = (ends, same, refl, tells.0, tells.1)
 integrated_reply outcomes r tells = absurd tells
 
 -- it is one
-outcomes_told_once : (outcomes : List Outcome) (r s : Reply) → TellsOutcomes outcomes r → TellsOutcomes outcomes s → r ≡ s
+outcomes_told_once : (outcomes : List Outcome) (r s : Reply) → TellsOutcomes outcomes r
+    → TellsOutcomes outcomes s → r ≡ s
 outcomes_told_once outcomes r s first second =
     let one = integrated_reply outcomes r first in
     let other = integrated_reply outcomes s second in
@@ -60,29 +63,36 @@ outcomes_told_once outcomes r s first second =
     one.2 ∙ ap (λ (l : List End). Integrated l one.1) ends ∙ ap (λ (b : Bool). Integrated other.0 b) same ∙ sym other.2
 
 -- the reply to what a case is read as is one
-trial_replied_once : (f : Function) (read : Result Trial CaseFault) (r s : Reply) → IsReplyToTrial f read r → IsReplyToTrial f read s → r ≡ s
+trial_replied_once : (f : Function) (read : Result Trial CaseFault) (r s : Reply) → IsReplyToTrial f read r
+    → IsReplyToTrial f read s → r ≡ s
 trial_replied_once f (Err fault) r s first second = first ∙ sym second
 trial_replied_once f (Ok t) r s first second = outcomes_told_once (outcomes_of f t) r s first second
 
 -- the reply to a case is one
-case_replied_once : (f : Function) (bytes : List ℕ) (r s : Reply) → IsReplyToCase f bytes r → IsReplyToCase f bytes s → r ≡ s
+case_replied_once : (f : Function) (bytes : List ℕ) (r s : Reply) → IsReplyToCase f bytes r
+    → IsReplyToCase f bytes s → r ≡ s
 unfolding IsReplyToCase
 case_replied_once f bytes r s first second = trial_replied_once f (trial_in f bytes) r s first second
 
-module _ (holds : List ℕ → Option (List ℕ)) (name other_name bytes contents : List ℕ) (r s : Reply) (told : holds name ≡ Some bytes)
+module _ (holds : List ℕ → Option (List ℕ)) (name other_name bytes contents : List ℕ) (r s : Reply)
+    (told : holds name ≡ Some bytes)
     (other_told : holds other_name ≡ Some contents) where
   -- the reply to a function's file and then to another one is one, where each function gets one reply to given bytes
   pub file_replied_once :
-      (Replies : Function → List ℕ → Reply → Type 0) → ((f : Function) (b : List ℕ) (one other : Reply) → Replies f b one → Replies f b other → one ≡ other)
+      (Replies : Function → List ℕ → Reply → Type 0)
+      → ((f : Function) (b : List ℕ) (one other : Reply) → Replies f b one → Replies f b other → one ≡ other)
       → IsReplyToFunction First (holds name) (λ f. IsReplyToFile files.Case (holds other_name) (λ b. Replies f b r) r) r
-      → IsReplyToFunction First (holds name) (λ f. IsReplyToFile files.Case (holds other_name) (λ b. Replies f b s) s) s → r ≡ s
+      → IsReplyToFunction First (holds name) (λ f. IsReplyToFile files.Case (holds other_name) (λ b. Replies f b s) s) s
+      → r ≡ s
   file_replied_once Replies one_reply first second =
-      function_once (holds name) bytes told First (λ f. IsReplyToFile files.Case (holds other_name) (λ b. Replies f b r) r)
+      function_once (holds name) bytes told First
+      (λ f. IsReplyToFile files.Case (holds other_name) (λ b. Replies f b r) r)
       (λ f. IsReplyToFile files.Case (holds other_name) (λ b. Replies f b s) s) r s (r ≡ s) first second (λ same. same)
       (λ f read gets others.
       file_once (holds other_name) contents other_told files.Case (λ b. Replies f b r) (λ b. Replies f b s) r s (r ≡ s)
       gets others (λ same. same) (one_reply f contents r s))
 
   -- the reply of `integrate` to told files is one
-  pub integrate_replied_once : IsReplyTo holds (Integrate name other_name) r → IsReplyTo holds (Integrate name other_name) s → r ≡ s
+  pub integrate_replied_once : IsReplyTo holds (Integrate name other_name) r
+      → IsReplyTo holds (Integrate name other_name) s → r ≡ s
   integrate_replied_once first second = file_replied_once IsReplyToCase case_replied_once first second

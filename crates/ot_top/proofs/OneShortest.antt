@@ -18,13 +18,16 @@ use Rattle.ot_top.proofs.OneVerdict.{end_countered_once}
 
 -- what tells of the counterexamples of searches that come to one end is one
 short_told_once :
-    (f : Function) (one other : Short) (r s : Reply) → AreAlikeAnswers one other → TellsShort f false one r → TellsShort f false other s → r ≡ s
+    (f : Function) (one other : Short) (r s : Reply) → AreAlikeAnswers one other → TellsShort f false one r
+    → TellsShort f false other s → r ≡ s
 short_told_once f shorts.Fine shorts.Fine r s alike tells says = tells ∙ sym says
 short_told_once f shorts.TooLong shorts.TooLong r s alike tells says = tells ∙ sym says
 short_told_once f shorts.Spent shorts.Spent r s alike tells says = tells ∙ sym says
-short_told_once f (shorts.Least ob answers why cells cert) (shorts.Least name others cause count low) r s alike tells says =
+short_told_once f (shorts.Least ob answers why cells cert)
+    (shorts.Least name others cause count low) r s alike tells says =
     let counters : tells.0 ≡ says.0 =
-    end_countered_once f (end_by ob answers.items why) (end_by name others.items cause) tells.0 says.0 alike.0 tells.1 says.1 in
+    end_countered_once f (end_by ob answers.items why) (end_by name others.items cause) tells.0 says.0
+    alike.0 tells.1 says.1 in
     tells.2 ∙ ap (λ (c : Counter). Shortest c cells) counters ∙ ap (λ (n : ℕ). Shortest says.0 n) alike.1 ∙ sym says.2
 short_told_once f shorts.Fine (shorts.Least ob answers why cells cert) r s alike tells says = absurd (cc)
 short_told_once f shorts.Fine shorts.TooLong r s alike tells says = absurd (cc)
@@ -48,12 +51,14 @@ one_reply r s same = (ap (λ x. status_of x) same, λ other. same)
 
 -- and of certificates their statuses are one
 certified_told_once :
-    (f : Function) (one other : Short) (r s : Reply) → AreAlikeAnswers one other → TellsShort f true one r → TellsShort f true other s
+    (f : Function) (one other : Short) (r s : Reply) → AreAlikeAnswers one other → TellsShort f true one r
+    → TellsShort f true other s
     → AreCertifiedOrOne r s
 certified_told_once f shorts.Fine shorts.Fine r s alike tells says = one_reply r s (tells ∙ sym says)
 certified_told_once f shorts.TooLong shorts.TooLong r s alike tells says = one_reply r s (tells ∙ sym says)
 certified_told_once f shorts.Spent shorts.Spent r s alike tells says = one_reply r s (tells ∙ sym says)
-certified_told_once f (shorts.Least ob answers why cells cert) (shorts.Least name others cause count low) r s alike tells says =
+certified_told_once f (shorts.Least ob answers why cells cert)
+    (shorts.Least name others cause count low) r s alike tells says =
     let first : status_of r ≡ 1 = ap (λ x. status_of x) tells in
     let second : status_of s ≡ 1 = ap (λ x. status_of x) says in
     (first ∙ sym second, λ other. absurd (other first))
@@ -70,19 +75,23 @@ certified_told_once f (shorts.Least ob answers why cells cert) shorts.Fine r s a
 certified_told_once f (shorts.Least ob answers why cells cert) shorts.TooLong r s alike tells says = absurd (cc)
 certified_told_once f (shorts.Least ob answers why cells cert) shorts.Spent r s alike tells says = absurd (cc)
 
-module _ (one_search : (f : Function) (budget : ℕ) (one other : Short) → IsShort f budget one → IsShort f budget other → AreAlikeAnswers one other)
+module _ (one_search : (f : Function) (budget : ℕ) (one other : Short) → IsShort f budget one → IsShort f budget other
+    → AreAlikeAnswers one other)
     (holds : List ℕ → Option (List ℕ)) (name bytes : List ℕ) (r s : Reply) (told : holds name ≡ Some bytes) where
   -- the reply of `least` to a told file is one
   pub least_replied_once : IsReplyTo holds (Least false name) r → IsReplyTo holds (Least false name) s → r ≡ s
   least_replied_once first second =
-      function_once (holds name) bytes told First (λ f. IsReplyToLeast f false r) (λ f. IsReplyToLeast f false s) r s (r ≡ s) first second
+      function_once (holds name) bytes told First (λ f. IsReplyToLeast f false r)
+      (λ f. IsReplyToLeast f false s) r s (r ≡ s) first second
       (λ same. same)
-      (λ f read one other. short_told_once f one.0 other.0 r s (one_search f most_questions one.0 other.0 one.1 other.1) one.4 other.4)
+      (λ f read one other. short_told_once f one.0 other.0 r s
+      (one_search f most_questions one.0 other.0 one.1 other.1) one.4 other.4)
 
   -- and that of `least --cert`, but for the certificate
   pub certified_replied_once :
       IsReplyTo holds (Least true name) r → IsReplyTo holds (Least true name) s → AreCertifiedOrOne r s
   certified_replied_once first second =
-      function_once (holds name) bytes told First (λ f. IsReplyToLeast f true r) (λ f. IsReplyToLeast f true s) r s (AreCertifiedOrOne r s)
-      first second (one_reply r s)
-      (λ f read one other. certified_told_once f one.0 other.0 r s (one_search f most_questions one.0 other.0 one.1 other.1) one.4 other.4)
+      function_once (holds name) bytes told First (λ f. IsReplyToLeast f true r) (λ f. IsReplyToLeast f true s) r s
+      (AreCertifiedOrOne r s) first second (one_reply r s)
+      (λ f read one other. certified_told_once f one.0 other.0 r s
+      (one_search f most_questions one.0 other.0 one.1 other.1) one.4 other.4)

@@ -1,5 +1,6 @@
 -- The reply of `prove` is told by its function, but for the certificate.
-use Rattle.std.proofs.Common.{◌≡◌, ◌≢◌, ℕ, ℤ, pos, ◌≤ℤ◌, ◌<◌, List, length, Option, Some, None, sym, ap, ◌∙◌, subst, arith}
+use Rattle.std.proofs.Common.{◌≡◌, ◌≢◌, ℕ, ℤ, pos, ◌≤ℤ◌, ◌<◌, List, length, Option, Some, None, sym, ap, ◌∙◌, subst}
+use Rattle.std.proofs.Common.{arith}
 use Rattle.std.proofs.lemmas.Int.{ints}
 use Rattle.std.proofs.lemmas.List.{ext_get_or}
 use Rattle.diff_graph.specs.declared.lit.Lit.{Lit}
@@ -31,7 +32,8 @@ no_higher : (a b : ℤ) → a ≤ℤ b → b ≤ℤ a → a ≡ b
 no_higher a b low high = omega (arith, ints)
 
 -- the least values are one
-pub least_once : (w : List Lit) (floors values others : List ℤ) → AreLeast w floors values → AreLeast w floors others → values ≡ others
+pub least_once : (w : List Lit) (floors values others : List ℤ) → AreLeast w floors values
+    → AreLeast w floors others → values ≡ others
 least_once w floors values others one other =
     ext_get_or (pos 0) values others (one.len ∙ sym other.len)
     (λ x few.
@@ -43,7 +45,8 @@ least_once w floors values others one other =
 
 -- counterexamples with the same parts are one
 parts_once :
-    (a b : Counter) → a.level ≡ b.level → a.doc ≡ b.doc → a.ops ≡ b.ops → a.why ≡ b.why → a.left ≡ b.left → a.right ≡ b.right → a ≡ b
+    (a b : Counter) → a.level ≡ b.level → a.doc ≡ b.doc → a.ops ≡ b.ops → a.why ≡ b.why → a.left ≡ b.left
+    → a.right ≡ b.right → a ≡ b
 parts_once a b level doc ops why left right = λ i. record {
   level = level i;
   doc = doc i;
@@ -55,13 +58,15 @@ parts_once a b level doc ops why left right = λ i. record {
 
 -- what is read off values is one
 read_off_once :
-    (f : Function) (ob : ObName) (v : ℕ → ℤ) (why : Why) (a b : Counter) → IsReadOff f ob v why a → IsReadOff f ob v why b → a ≡ b
+    (f : Function) (ob : ObName) (v : ℕ → ℤ) (why : Why) (a b : Counter) → IsReadOff f ob v why a
+    → IsReadOff f ob v why b → a ≡ b
 read_off_once f ob v why a b one other =
-    parts_once a b (one.level ∙ sym other.level) (one.doc ∙ sym other.doc) (one.ops ∙ sym other.ops) (one.cause ∙ sym other.cause)
-    (one.left ∙ sym other.left) (one.right ∙ sym other.right)
+    parts_once a b (one.level ∙ sym other.level) (one.doc ∙ sym other.doc) (one.ops ∙ sym other.ops) (one.cause
+    ∙ sym other.cause) (one.left ∙ sym other.left) (one.right ∙ sym other.right)
 
 -- the counterexample that answers give is one
-counter_once : (f : Function) (ob : ObName) (w : List Lit) (why : Why) (a b : Counter) → IsCounter f ob w why a → IsCounter f ob w why b → a ≡ b
+counter_once : (f : Function) (ob : ObName) (w : List Lit) (why : Why) (a b : Counter) → IsCounter f ob w why a
+    → IsCounter f ob w why b → a ≡ b
 counter_once f ob w why a b one other =
     let same : other.values ≡ one.values = least_once w (floors_of ob) other.values one.values other.least one.least in
     read_off_once f ob (valuation_of one.values) why a b one.read
@@ -86,7 +91,8 @@ alike r s same = (ap (λ x. status_of x) same, λ other. same)
 -- what tells the verdict of the same questions is one, but for the certificate
 verdict_told_once :
     (f : Function) (level : Level) (budget : ℕ) (lists : List (ObQuestions Why)) (one other : Verdict) (r s : Reply)
-    → IsVerdict f level budget lists one → IsVerdict f level budget lists other → TellsVerdict f one r → TellsVerdict f other s → AreAlike r s
+    → IsVerdict f level budget lists one → IsVerdict f level budget lists other → TellsVerdict f one r
+    → TellsVerdict f other s → AreAlike r s
 verdict_told_once f level budget lists (verdicts.Yes bytes asked) (verdicts.Yes others again) r s is so tells says =
     let first : status_of r ≡ 0 = ap (λ x. status_of x) tells in
     let second : status_of s ≡ 0 = ap (λ x. status_of x) says in
@@ -97,7 +103,8 @@ verdict_told_once f level budget lists (verdicts.Yes bytes asked) verdicts.Spent
     absurd (let few = is.0 in omega (arith, few, so))
 verdict_told_once f level budget lists (verdicts.No ob answers why) (verdicts.Yes bytes asked) r s is so tells says =
     absurd (let none : failing_in lists ≡ None = so.1 in let some = is.1.first in cc)
-verdict_told_once f level budget lists (verdicts.No ob answers why) (verdicts.No name others cause) r s is so tells says =
+verdict_told_once f level budget lists (verdicts.No ob answers why)
+    (verdicts.No name others cause) r s is so tells says =
     let x : FailingOb Why = record { ob = ob; end = record { answers = answered_by answers.items; why = why } } in
     let y : FailingOb Why = record { ob = name; end = record { answers = answered_by others.items; why = cause } } in
     let first : failing_in lists ≡ Some x = is.1.first in
@@ -106,7 +113,8 @@ verdict_told_once f level budget lists (verdicts.No ob answers why) (verdicts.No
     let counters : tells.0 ≡ says.0 = end_countered_once f x y tells.0 says.0 same tells.1 says.1 in
     alike r s (tells.2 ∙ ap (λ (c : Counter). Broken c) counters ∙ sym says.2)
   where
-    same_end : (lists : List (ObQuestions Why)) (x y : FailingOb Why) → failing_in lists ≡ Some x → failing_in lists ≡ Some y → x ≡ y
+    same_end : (lists : List (ObQuestions Why)) (x y : FailingOb Why) → failing_in lists ≡ Some x
+        → failing_in lists ≡ Some y → x ≡ y
     same_end lists x y first second = cc
 verdict_told_once f level budget lists (verdicts.No ob answers why) verdicts.Spent r s is so tells says =
     absurd (let few = is.0 in omega (arith, few, so))
@@ -121,7 +129,8 @@ module _ (one_list :
     → AreAsked (plan_of f) obs others → lists ≡ others) where
   -- two replies to a function that is to be proved are alike
   proof_replied_once :
-      (f : Function) (level : Level) (budget : ℕ) (r s : Reply) → IsReplyToProof f level budget r → IsReplyToProof f level budget s → AreAlike r s
+      (f : Function) (level : Level) (budget : ℕ) (r s : Reply) → IsReplyToProof f level budget r
+      → IsReplyToProof f level budget s → AreAlike r s
   proof_replied_once f level budget r s (one, (lists, asked, is), _, tells) (other, (others, asked_too, so), _, says) =
       let same : others ≡ lists = one_list f (obligations_of f.head level) others lists asked_too asked in
       verdict_told_once f level budget lists one other r s is
@@ -129,9 +138,11 @@ module _ (one_list :
 
   -- so are two replies of `prove` to a told file
   pub prove_replied_once :
-      (holds : List ℕ → Option (List ℕ)) (level : Level) (budget : ℕ) (name bytes : List ℕ) (r s : Reply) → holds name ≡ Some bytes
+      (holds : List ℕ → Option (List ℕ)) (level : Level) (budget : ℕ) (name bytes : List ℕ) (r s : Reply)
+      → holds name ≡ Some bytes
       → IsReplyTo holds (Prove level budget name) r → IsReplyTo holds (Prove level budget name) s
       → (status_of r ≡ status_of s) × (status_of r ≢ 0 → r ≡ s)
   prove_replied_once holds level budget name bytes r s told first second =
-      function_once (holds name) bytes told First (λ f. IsReplyToProof f level budget r) (λ f. IsReplyToProof f level budget s) r s (AreAlike r s)
+      function_once (holds name) bytes told First (λ f. IsReplyToProof f level budget r)
+      (λ f. IsReplyToProof f level budget s) r s (AreAlike r s)
       first second (alike r s) (λ f read gets others. proof_replied_once f level budget r s gets others)

@@ -1,6 +1,6 @@
 -- What the statuses of `prove` and of `settle` show, from their replies.
-use Rattle.std.proofs.Common.{◌≡◌, ◌≢◌, ℕ, ◌<◌, ◌≤◌, true, false, List, length, Option, Some, None, Result, Ok, Err, IsTrue, refl, ap, ◌∙◌, subst, take, inl}
-use Rattle.std.proofs.Common.{inr, arith}
+use Rattle.std.proofs.Common.{◌≡◌, ◌≢◌, ℕ, ◌<◌, ◌≤◌, true, false, List, length, Option, Some, None, Result, Ok, Err}
+use Rattle.std.proofs.Common.{IsTrue, refl, ap, ◌∙◌, subst, take, inl, inr, arith}
 use Rattle.std.specs.Prelude.{MatchOption, ℤ, nat_lt}
 use Rattle.std.proofs.lemmas.Bool.Decides.{nat_tests}
 use Rattle.std.proofs.lemmas.List.{take_all}
@@ -27,7 +27,8 @@ use Rattle.ot_decide.specs.declared.verdict.Verdict.{Verdict}
 use Rattle.ot_decide.specs.declared.verdict.Verdict.TheVariants as verdicts
 use Rattle.ot_sections.specs.Certificates.{IsCertificate}
 use Rattle.ot_judge.specs.Refusals.{IsJudgement}
-use Rattle.ot_decide.specs.Verdicts.{AreAsked, ObQuestions, IsDecidedAs, IsVerdict, IsVerdictWithin, count_in, failing_in}
+use Rattle.ot_decide.specs.Verdicts.{AreAsked, ObQuestions, IsDecidedAs, IsVerdict, IsVerdictWithin, count_in}
+use Rattle.ot_decide.specs.Verdicts.{failing_in}
 use Rattle.ot_counter.specs.declared.counter.Counter.{Counter}
 use Rattle.ot_counter.specs.Counters.{Breaks, BreaksBy}
 use Rattle.ask_core.specs.Leading.{LeadTo}
@@ -70,10 +71,13 @@ reply_to_asked words holds r asked named is =
 
 -- a reply of another status than 9 and 3 comes of a function that was read
 read_behind :
-    (r : Reply) (status : ℕ) → status ≡ status_of r → status ≢ 9 → status ≢ 3 → (subject : Subject) (told : Option (List ℕ))
+    (r : Reply) (status : ℕ) → status ≡ status_of r → status ≢ 9 → status ≢ 3
+    → (subject : Subject) (told : Option (List ℕ))
     (Gets : Function → Type 0) → IsReplyToFunction subject told Gets r → (f : Function) × IsReadAs (Ok f) told × Gets f
-read_behind r status is no_limit no_fault subject told Gets (inl (inl h)) = absurd (no_limit (is ∙ ap (λ x. status_of x) h.1))
-read_behind r status is no_limit no_fault subject told Gets (inl (inr h)) = absurd (no_fault (is ∙ ap (λ x. status_of x) h.2))
+read_behind r status is no_limit no_fault subject told Gets (inl (inl h)) =
+    absurd (no_limit (is ∙ ap (λ x. status_of x) h.1))
+read_behind r status is no_limit no_fault subject told Gets (inl (inr h)) =
+    absurd (no_fault (is ∙ ap (λ x. status_of x) h.2))
 read_behind r status is no_limit no_fault subject told Gets (inr h) = h
 
 -- the reply to the text of a function within the limit is the one that the function gets
@@ -89,18 +93,21 @@ module _ (told : Option (List ℕ)) (bytes : List ℕ) (f : Function) (is_told :
 
 -- a certificate of any kind that is within the limit is accepted
 module _ {T : Type 0} (Judges : List ℕ → Result T JudgeError → Type 0) (accepts : T → Reply)
-    (one_judgement : (bytes : List ℕ) (one other : Result T JudgeError) → Judges bytes one → Judges bytes other → one ≡ other)
+    (one_judgement : (bytes : List ℕ) (one other : Result T JudgeError) → Judges bytes one
+    → Judges bytes other → one ≡ other)
     (certificate : List ℕ) (shown : T) (is_one : Judges certificate (Ok shown))
     (within : length certificate ≤ limit_of files.Certificate) where
   accepted_behind :
       (told : Option (List ℕ)) (contents : List ℕ) (r : Reply) → told ≡ Some certificate
       → IsReplyToJudgement accepts told contents (Ok shown) r → r ≡ accepts shown
-  accepted_behind told contents r is (inl h) = absurd (let longer = h.1.0 certificate is in omega (arith, longer, within))
+  accepted_behind told contents r is (inl h) =
+      absurd (let longer = h.1.0 certificate is in omega (arith, longer, within))
   accepted_behind told contents r is (inr h) = h.1
 
   -- the reply to its file, where it is told, is that it is accepted
   pub accepted_file :
-      (told : Option (List ℕ)) (r : Reply) → told ≡ Some certificate → IsReplyToCertificate Judges accepts told r → r ≡ accepts shown
+      (told : Option (List ℕ)) (r : Reply) → told ≡ Some certificate
+      → IsReplyToCertificate Judges accepts told r → r ≡ accepts shown
   accepted_file told r is (contents, known, reply) =
       let judgement : Result T JudgeError = reply.0 in
       let front : take (limit_of files.Certificate) contents ≡ certificate =
@@ -113,15 +120,16 @@ module _ {T : Type 0} (Judges : List ℕ → Result T JudgeError → Type 0) (ac
 
 -- `check` accepts such a certificate
 accepted_at :
-    ((f : Function) (bytes : List ℕ) (one other : Result Level JudgeError) → IsTrue (is_valid f) → IsJudgement f bytes one
+    ((f : Function) (bytes : List ℕ) (one other : Result Level JudgeError) → IsTrue (is_valid f)
+    → IsJudgement f bytes one
     → IsJudgement f bytes other → one ≡ other)
     → (f : Function) → IsTrue (is_valid f) → (certificate : List ℕ) (level : Level) → IsCertificate certificate f level
     → length certificate ≤ limit_of files.Certificate → (bytes : List ℕ) → length bytes ≤ limit_of files.Function
     → function_in bytes ≡ Ok f → IsAcceptedAt Certificate bytes certificate level
-accepted_at one_judgement f valid certificate level is_one within bytes small read holds name certificate_name r told certificate_told
-    reply =
-    accepted_file (IsJudgement f) Accepted (λ b one other first second. one_judgement f b one other valid first second) certificate level is_one
-    within (holds certificate_name) r certificate_told
+accepted_at one_judgement f valid certificate level is_one within bytes small read holds name certificate_name r
+    told certificate_told reply =
+    accepted_file (IsJudgement f) Accepted (λ b one other first second. one_judgement f b one other valid first second)
+    certificate level is_one within (holds certificate_name) r certificate_told
     (gets (holds name) bytes f told small read First (λ g. IsReplyToChecked g (holds certificate_name) r) r reply)
 
 -- `confirm` accepts bytes that are judged to be a proof
@@ -133,15 +141,19 @@ module _ (f : Function) (proof : List ℕ) (level : Level) (judged : judgement_o
   confirmed_behind told contents r is (inl h) = absurd (let longer = h.1.0 proof is in omega (arith, longer, within))
   confirmed_behind told contents r is (inr h) = h.1
 
-  confirmed_file : (told : Option (List ℕ)) (r : Reply) → told ≡ Some proof → IsReplyToConfirmed f told r → r ≡ Confirmed level
+  confirmed_file : (told : Option (List ℕ)) (r : Reply) → told ≡ Some proof
+      → IsReplyToConfirmed f told r → r ≡ Confirmed level
   confirmed_file told r is (contents, known, reply) =
       let front : take (limit_of files.Proof) contents ≡ proof =
-      ap (λ (l : List ℕ). take (limit_of files.Proof) l) (known proof is) ∙ take_all (limit_of files.Proof) proof within in
-      let same : judgement_of f (take (limit_of files.Proof) contents) ≡ Ok level = ap (judgement_of f) front ∙ judged in
+      ap (λ (l : List ℕ). take (limit_of files.Proof) l) (known proof is)
+      ∙ take_all (limit_of files.Proof) proof within in
+      let same : judgement_of f (take (limit_of files.Proof) contents) ≡ Ok level = ap (judgement_of f) front
+      ∙ judged in
       confirmed_behind told contents r is
       (subst (λ (j : Result Level ConfirmError). IsReplyToJudged told contents j r) same reply)
 
-  confirmed_at : (bytes : List ℕ) → length bytes ≤ limit_of files.Function → function_in bytes ≡ Ok f → IsAcceptedAt Proof bytes proof level
+  confirmed_at : (bytes : List ℕ) → length bytes ≤ limit_of files.Function → function_in bytes ≡ Ok f
+      → IsAcceptedAt Proof bytes proof level
   confirmed_at bytes small read holds name proof_name r told proof_told reply =
       confirmed_file (holds proof_name) r proof_told
       (gets (holds name) bytes f told small read First (λ g. IsReplyToConfirmed g (holds proof_name) r) r reply)
@@ -149,7 +161,8 @@ module _ (f : Function) (proof : List ℕ) (level : Level) (judged : judgement_o
 -- status 0: the verdict is yes
 proved_verdict :
     (f : Function) (level : Level) (budget : ℕ) (r : Reply) (verdict : Verdict) → 0 ≡ status_of r
-    → IsDecidedAs f level budget verdict → (budget ≤ most_questions → IsVerdictWithin (limit_of files.Certificate) verdict)
+    → IsDecidedAs f level budget verdict
+    → (budget ≤ most_questions → IsVerdictWithin (limit_of files.Certificate) verdict)
     → TellsVerdict f verdict r
     → (certificate : List ℕ) × IsCertificate certificate f level
     × (budget ≤ most_questions → length certificate ≤ limit_of files.Certificate) × (r ≡ Proved certificate)
@@ -163,7 +176,8 @@ proved_verdict f level budget r verdicts.Spent is decided within tells =
 
 -- status 0: a proof was found
 proved_settled :
-    (f : Function) (level : Level) (r : Reply) (settled : Settled) → 0 ≡ status_of r → IsSettled f level settled → TellsSettled f settled r
+    (f : Function) (level : Level) (r : Reply) (settled : Settled) → 0 ≡ status_of r → IsSettled f level settled
+    → TellsSettled f settled r
     → (proof : List ℕ) × (judgement_of f proof ≡ Ok level) × (length proof ≤ limit_of files.Proof) × (r ≡ Proved proof)
 proved_settled f level r (outcomes.Yes bytes) is shown tells = (bytes.items, shown.judged, shown.short, tells)
 proved_settled f level r (outcomes.No ob answers why) is refuted tells =
@@ -178,15 +192,18 @@ Gets Proof f level budget r = IsReplyToSettle f level r
 
 pub evidence_replied :
     (e : Evidence) (holds : List ℕ → Option (List ℕ)) (r : Reply) (level : Level) (budget : ℕ) (name : List ℕ)
-    → IsReplyTo holds (asks_for e level budget name) r → IsReplyToFunction First (holds name) (λ f. Gets e f level budget r) r
+    → IsReplyTo holds (asks_for e level budget name) r
+    → IsReplyToFunction First (holds name) (λ f. Gets e f level budget r) r
 evidence_replied Certificate holds r level budget name is = is
 evidence_replied Proof holds r level budget name is = is
 
--- status 0: the evidence was found, and is written; it keeps the limit of its file where the budget is within its bounds
+-- status 0: the evidence was found, and is written; it keeps the limit of its
+-- file where the budget is within its bounds
 pub found :
     (e : Evidence) (f : Function) (level : Level) (budget : ℕ) (r : Reply) → 0 ≡ status_of r → Gets e f level budget r
     → (evidence : List ℕ) × IsEvidence e evidence f level
-    × ((name : List ℕ) → IsWithinBounds (asks_for e level budget name) → length evidence ≤ limit_of (file_of e)) × (r ≡ Proved evidence)
+    × ((name : List ℕ) → IsWithinBounds (asks_for e level budget name) → length evidence ≤ limit_of (file_of e))
+    × (r ≡ Proved evidence)
 found Certificate f level budget r is got =
     let held = proved_verdict f level budget r got.0 is got.1 got.2 got.3 in
     (held.0, held.1, λ name few. held.2 few, held.3)
@@ -204,9 +221,11 @@ evidence_level certified confirmed Proof bytes f level is = confirmed f bytes le
 
 -- the command that judges it accepts it
 evidence_accepted :
-    ((f : Function) (bytes : List ℕ) (one other : Result Level JudgeError) → IsTrue (is_valid f) → IsJudgement f bytes one
+    ((f : Function) (bytes : List ℕ) (one other : Result Level JudgeError) → IsTrue (is_valid f)
+    → IsJudgement f bytes one
     → IsJudgement f bytes other → one ≡ other)
-    → (e : Evidence) (f : Function) → IsTrue (is_valid f) → (evidence : List ℕ) (level : Level) → IsEvidence e evidence f level
+    → (e : Evidence) (f : Function) → IsTrue (is_valid f) → (evidence : List ℕ) (level : Level)
+    → IsEvidence e evidence f level
     → length evidence ≤ limit_of (file_of e) → (bytes : List ℕ) → length bytes ≤ limit_of files.Function
     → function_in bytes ≡ Ok f → IsAcceptedAt e bytes evidence level
 evidence_accepted one_judgement Certificate f valid evidence level is within bytes small read =
@@ -219,9 +238,11 @@ module _ (is_text : (bytes : List ℕ) (f : Function) → function_in bytes ≡ 
   -- status 0: the evidence that was written is accepted, and the function has what the level says
   pub proved :
       ((e : Evidence) (bytes : List ℕ) (f : Function) (level : Level) → IsEvidence e bytes f level → HasLevel f level)
-      → ((f : Function) (bytes : List ℕ) (one other : Result Level JudgeError) → IsTrue (is_valid f) → IsJudgement f bytes one
+      → ((f : Function) (bytes : List ℕ) (one other : Result Level JudgeError) → IsTrue (is_valid f)
+      → IsJudgement f bytes one
       → IsJudgement f bytes other → one ≡ other)
-      → (e : Evidence) (words : List (List ℕ)) (holds : List ℕ → Option (List ℕ)) (r : Reply) (IsWritten : List ℕ → Type 0)
+      → (e : Evidence) (words : List (List ℕ)) (holds : List ℕ → Option (List ℕ)) (r : Reply)
+      (IsWritten : List ℕ → Type 0)
       → 0 ≡ status_of r → IsReply words holds r → IsWritten (text_of r) → IsProved e words holds IsWritten
   proved has_level one_judgement e words holds r IsWritten is_zero is_reply written level budget name bytes named told =
       let asked = asks_for e level budget name in
@@ -245,11 +266,13 @@ module _ (is_text : (bytes : List ℕ) (f : Function) → function_in bytes ≡ 
       )
 
   module _ (broken_there :
-      (f : Function) (ob : ObName) (w : List Lit) (why : Why) (values : List ℤ) → IsTrue (is_valid f) → IsTrue (is_obligation f.head ob)
+      (f : Function) (ob : ObName) (w : List Lit) (why : Why) (values : List ℤ) → IsTrue (is_valid f)
+      → IsTrue (is_obligation f.head ob)
       → LeadTo why (plan_of f ob) w → AreLeast w (floors_of ob) values
       → Breaks f (level_of ob) (document_at (valuation_of values) why) (ops_at (valuation_of values) ob))
       (by_the_cause :
-      (f : Function) (ob : ObName) (w : List Lit) (why : Why) (values : List ℤ) → IsTrue (is_valid f) → IsTrue (is_obligation f.head ob)
+      (f : Function) (ob : ObName) (w : List Lit) (why : Why) (values : List ℤ) → IsTrue (is_valid f)
+      → IsTrue (is_obligation f.head ob)
       → LeadTo why (plan_of f ob) w → AreLeast w (floors_of ob) values
       → BreaksBy f (level_of ob) (document_at (valuation_of values) why) (ops_at (valuation_of values) ob) why)
       (tp1_before :
@@ -259,7 +282,8 @@ module _ (is_text : (bytes : List ℕ) (f : Function) → function_in bytes ≡ 
     -- where a triple fails, the pairs before it did not
     has_before :
         (f : Function) (level : Level) (lists : List (ObQuestions Why)) (ob : ObName) (end : FailingEnd Why)
-        → AreAsked (plan_of f) (obligations_of f.head level) lists → failing_in lists ≡ Some (record { ob = ob; end = end })
+        → AreAsked (plan_of f) (obligations_of f.head level) lists
+        → failing_in lists ≡ Some (record { ob = ob; end = end })
         → IsAskedAt (level_of ob) level → HasBefore f (level_of ob)
     has_before f level lists (Pair k l) end asked fails at = tt
     has_before f Tp1 lists (Triple k l m) end asked fails at = absurd at
@@ -267,7 +291,8 @@ module _ (is_text : (bytes : List ℕ) (f : Function) → function_in bytes ≡ 
 
     -- status 1: the verdict is no
     broken_verdict :
-        (f : Function) (level : Level) (budget : ℕ) (r : Reply) (verdict : Verdict) → 1 ≡ status_of r → IsTrue (is_valid f)
+        (f : Function) (level : Level) (budget : ℕ) (r : Reply) (verdict : Verdict)
+        → 1 ≡ status_of r → IsTrue (is_valid f)
         → IsDecidedAs f level budget verdict → TellsVerdict f verdict r
         → (counter : Counter) × IsBrokenBy f level counter × (r ≡ Broken counter)
     broken_verdict f level budget r (verdicts.Yes bytes asked) is valid decided tells =
@@ -277,7 +302,8 @@ module _ (is_text : (bytes : List ℕ) (f : Function) → function_in bytes ≡ 
         let w : List Lit = answered_by answers.items in
         let at = asked_at (plan_of f) f.head level decided.0 _ decided.1 refuted.first in (
           tells.0,
-          counter_breaks broken_there by_the_cause f level ob w why tells.0 valid refuted.listed (literals_lead why (plan_of f ob) answers.items refuted.way) at
+          counter_breaks broken_there by_the_cause f level ob w why tells.0 valid refuted.listed
+              (literals_lead why (plan_of f ob) answers.items refuted.way) at
               (has_before f level decided.0 ob _ decided.1 refuted.first at) tells.1,
           tells.2,
         )
@@ -314,7 +340,8 @@ module _ (is_text : (bytes : List ℕ) (f : Function) → function_in bytes ≡ 
 
     -- status 1: a counterexample was written that breaks a property which is asked at the level
     pub broken :
-        (e : Evidence) (words : List (List ℕ)) (holds : List ℕ → Option (List ℕ)) (r : Reply) (IsWritten : List ℕ → Type 0)
+        (e : Evidence) (words : List (List ℕ)) (holds : List ℕ → Option (List ℕ)) (r : Reply)
+        (IsWritten : List ℕ → Type 0)
         → 1 ≡ status_of r → IsReply words holds r → IsWritten (text_of r) → IsShownBroken e words holds IsWritten
     broken e words holds r IsWritten is_one is_reply written level budget name bytes named told =
         let got = read_behind r 1 is_one (λ e. omega (arith, e)) (λ e. omega (arith, e)) First (holds name)
@@ -365,8 +392,11 @@ pub complete :
     → (words : List (List ℕ)) (holds : List ℕ → Option (List ℕ)) (r : Reply) → IsReply words holds r
     → IsComplete words holds (status_of r)
 complete texts_are_read one_list words holds r is_reply level budget name bytes f lists named told small text asked =
-    let reply : IsReplyTo holds (Prove level budget name) r = reply_to_asked words holds r (Prove level budget name) named is_reply in
-    let got = gets (holds name) bytes f told small (texts_are_read bytes f text) First (λ g. IsReplyToProof g level budget r) r reply in
-    let same : got.1.0 ≡ lists = asked_once (plan_of f) one_list (obligations_of f.head level) got.1.0 lists got.1.1 asked in
+    let reply : IsReplyTo holds (Prove level budget name) r =
+    reply_to_asked words holds r (Prove level budget name) named is_reply in
+    let got = gets (holds name) bytes f told small (texts_are_read bytes f text) First
+    (λ g. IsReplyToProof g level budget r) r reply in
+    let same : got.1.0 ≡ lists = asked_once (plan_of f) one_list (obligations_of f.head level)
+    got.1.0 lists got.1.1 asked in
     status_of_verdict f level budget r got.0 lists
     (subst (λ (l : List (ObQuestions Why)). IsVerdict f level budget l got.0) same got.1.2) got.3

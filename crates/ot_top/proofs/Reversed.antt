@@ -1,4 +1,5 @@
--- What was written of functions that are asked whether one takes back what the other makes, and that it is told by their files.
+-- What was written of functions that are asked whether one takes back what the
+-- other makes, and that it is told by their files.
 use Rattle.std.proofs.Common.{◌≡◌, ℕ, List, Option, Some, Ok, sym, ap, ◌∙◌, subst, inl, inr}
 use Rattle.fn_rules.specs.Functions.{Function}
 use Rattle.fn_rules.specs.Obligations.{declared_pairs}
@@ -8,7 +9,7 @@ use Rattle.ot_replies.specs.declared.reply.Reply.{Reply}
 use Rattle.ot_replies.specs.declared.reply.Reply.TheVariants as replies
 use Rattle.ot_replies.specs.declared.reply.Subject.TheVariants.{First, Second}
 use Rattle.ot_replies.specs.Texts.{status_of, text_of}
-use Rattle.audit_answers.specs.declared.back.Back.{Back}
+use Rattle.ot_audit.specs.declared.back.Back.{Back}
 use Rattle.ot_reverse.specs.Answers.{AreSearched}
 use Rattle.ot_words.specs.Commands.{Reverse}
 use Rattle.ot_words.specs.Words.{most_questions}
@@ -24,15 +25,22 @@ module _ (texts_are_read : (bytes : List ℕ) (f : Function) → IsTextOf bytes 
   pub reversed : IsAnswered words holds status IsWritten → IsReversed words holds IsWritten status
   reversed (r, reply, steady, is, written) name other bytes contents f e named told other_told small text few also =
       let second : IsReplyToReverser f (holds other) r =
-      gets (holds name) bytes f told small (texts_are_read bytes f text) First (λ h. IsReplyToReverser h (holds other) r) r
-      (reply_to_asked words holds r (Reverse name other) named reply) in
+      gets (holds name) bytes f told small (texts_are_read bytes f text) First
+      (λ h. IsReplyToReverser h (holds other) r) r (reply_to_asked words holds r (Reverse name other) named reply) in
       let got : IsReplyToReversal f e r =
-      gets (holds other) contents e other_told few (texts_are_read contents e also) Second (λ h. IsReplyToReversal f h r) r second in
+      gets (holds other) contents e other_told few (texts_are_read contents e also) Second
+      (λ h. IsReplyToReversal f h r) r second in
       elim got [
         | inl (unlike, same) ↦
             inl (unlike, is ∙ ap (λ x. status_of x) same, subst IsWritten (ap (λ x. text_of x) same) written)
         | inr (back, alike, answered, same) ↦
-            inr (back, alike, answered, is ∙ ap (λ x. status_of x) same, subst IsWritten (ap (λ x. text_of x) same) written)
+            inr (
+              back,
+              alike,
+              answered,
+              is ∙ ap (λ x. status_of x) same,
+              subst IsWritten (ap (λ x. text_of x) same) written,
+            )
       ]
 
 -- what the law of reversals says
@@ -46,15 +54,18 @@ reversal_once once f e r s (inl (unlike, is)) (inl (also, so)) = is ∙ sym so
 reversal_once once f e r s (inl (unlike, is)) (inr (back, alike, so, same)) = absurd (unlike alike)
 reversal_once once f e r s (inr (back, alike, is, same)) (inl (unlike, so)) = absurd (unlike alike)
 reversal_once once f e r s (inr (back, alike, is, same)) (inr (another, also, so, same_too)) =
-    same ∙ ap (λ (x : Back). replies.Reversed x) (once f e most_questions back another is.searched so.searched) ∙ sym same_too
+    same ∙ ap (λ (x : Back). replies.Reversed x) (once f e most_questions back another is.searched so.searched)
+    ∙ sym same_too
 
 -- the reply of `reverse` to two told files is one
 pub reverse_replied_once :
-    OneReversal → (holds : List ℕ → Option (List ℕ)) (name other_name bytes contents : List ℕ) (r s : Reply) → holds name ≡ Some bytes
-    → holds other_name ≡ Some contents → IsReplyTo holds (Reverse name other_name) r → IsReplyTo holds (Reverse name other_name) s → r ≡ s
+    OneReversal → (holds : List ℕ → Option (List ℕ)) (name other_name bytes contents : List ℕ) (r s : Reply)
+    → holds name ≡ Some bytes
+    → holds other_name ≡ Some contents → IsReplyTo holds (Reverse name other_name) r
+    → IsReplyTo holds (Reverse name other_name) s → r ≡ s
 reverse_replied_once once holds name other_name bytes contents r s told other_told first second =
-    function_once (holds name) bytes told First (λ f. IsReplyToReverser f (holds other_name) r) (λ f. IsReplyToReverser f (holds other_name) s)
-    r s (r ≡ s) first second (λ same. same)
+    function_once (holds name) bytes told First (λ f. IsReplyToReverser f (holds other_name) r)
+    (λ f. IsReplyToReverser f (holds other_name) s) r s (r ≡ s) first second (λ same. same)
     (λ f read gets others.
-    function_once (holds other_name) contents other_told Second (λ e. IsReplyToReversal f e r) (λ e. IsReplyToReversal f e s) r s (r ≡ s) gets
-    others (λ same. same) (λ e read_too one other. reversal_once once f e r s one other))
+    function_once (holds other_name) contents other_told Second (λ e. IsReplyToReversal f e r) (λ e. IsReplyToReversal f
+    e s) r s (r ≡ s) gets others (λ same. same) (λ e read_too one other. reversal_once once f e r s one other))

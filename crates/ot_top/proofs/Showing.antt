@@ -1,5 +1,6 @@
 -- Status 0 of `check` is that of an accepted certificate, which shows what its level says.
-use Rattle.std.proofs.Common.{◌≡◌, ℕ, ◌<◌, ◌≤◌, List, length, take, Option, Result, Ok, Err, refl, ap, subst, ◌∙◌, inl, inr, arith}
+use Rattle.std.proofs.Common.{◌≡◌, ℕ, ◌<◌, ◌≤◌, List, length, take, Option, Result, Ok, Err, refl, ap, subst, ◌∙◌, inl}
+use Rattle.std.proofs.Common.{inr, arith}
 use Rattle.std.specs.Prelude.{IsTrue, MatchOption}
 use Rattle.std.specs.Option.{ForSome}
 use Rattle.std.proofs.lemmas.List.{take_all}
@@ -29,7 +30,8 @@ use Rattle.ot_top.specs.Shown.{HasLevel, IsShown}
 use Rattle.ot_replies.specs.Texts.{status_of, text_of}
 
 -- a reply of another status than 0
-pub other_status : (r other : Reply) (status : ℕ) → 0 ≡ status_of r → r ≡ other → status_of other ≡ status → 0 < status → ⊥
+pub other_status : (r other : Reply) (status : ℕ) → 0 ≡ status_of r → r ≡ other
+    → status_of other ≡ status → 0 < status → ⊥
 other_status r other status is_zero e named more =
     let same = is_zero ∙ (ap (λ x. status_of x) e ∙ named) in omega (arith, same, more)
 
@@ -44,11 +46,17 @@ module _ (r : Reply) (is_zero : 0 ≡ status_of r) where
   -- status 0 of a judgement's reply is that of an accepted certificate, all of whose bytes were judged
   module _ {T : Type 0} (Judges : List ℕ → Result T JudgeError → Type 0) (accepts : T → Reply) where
     accepted_bytes :
-        (contents : List ℕ) (judgement : Result T JudgeError) → Judges (take (limit_of files.Certificate) contents) judgement
-        → (IsTrue (rests_on_the_end judgement) → length contents ≤ limit_of files.Certificate) → Tells accepts judgement r
+        (contents : List ℕ) (judgement : Result T JudgeError)
+        → Judges (take (limit_of files.Certificate) contents) judgement
+        → (IsTrue (rests_on_the_end judgement) → length contents ≤ limit_of files.Certificate)
+        → Tells accepts judgement r
         → (shown : T) × Judges contents (Ok shown) × (r ≡ accepts shown)
-    accepted_bytes contents (Ok shown) is within tells =
-        (shown, subst (λ (b : List ℕ). Judges b (Ok shown)) (take_all (limit_of files.Certificate) contents (within refl)) is, tells)
+    accepted_bytes contents (Ok shown) is within tells = (
+      shown,
+      subst (λ (b : List ℕ). Judges b (Ok shown))
+          (take_all (limit_of files.Certificate) contents (within refl)) is,
+      tells,
+    )
     accepted_bytes contents (Err (judge.Refused offset why)) is within tells =
         absurd (other_status r (Refused offset why) 2 is_zero tells refl (omega arith))
     accepted_bytes contents (Err judge.Failed) is within tells = absurd tells
@@ -62,16 +70,19 @@ module _ (r : Reply) (is_zero : 0 ≡ status_of r) where
 
     file_accepted :
         (told : Option (List ℕ)) → IsReplyToCertificate Judges accepts told r
-        → (shown : T) × (contents : List ℕ) × ForSome told (λ known. contents ≡ known) × Judges contents (Ok shown) × (r ≡ accepts shown)
+        → (shown : T) × (contents : List ℕ) × ForSome told (λ known. contents ≡ known)
+        × Judges contents (Ok shown) × (r ≡ accepts shown)
     file_accepted told (contents, are, h) =
         let found = contents_accepted told contents h in (found.0, contents, are, found.1, found.2)
 
   -- the function is read, and there is a certificate of it
   pub accepted :
-      {T : Type 0} (Judges : Function → List ℕ → Result T JudgeError → Type 0) (accepts : T → Reply) (first second : Option (List ℕ))
+      {T : Type 0} (Judges : Function → List ℕ → Result T JudgeError → Type 0) (accepts : T → Reply)
+      (first second : Option (List ℕ))
       → IsReplyToFunction First first (λ f. IsReplyToCertificate (Judges f) accepts second r) r
       → (f : Function) × IsReadAs (Ok f) first
-      × ((shown : T) × (contents : List ℕ) × ForSome second (λ known. contents ≡ known) × Judges f contents (Ok shown) × (r ≡ accepts shown))
+      × ((shown : T) × (contents : List ℕ) × ForSome second (λ known. contents ≡ known)
+      × Judges f contents (Ok shown) × (r ≡ accepts shown))
   accepted Judges accepts first second (inl h) = absurd (not_refused First first h)
   accepted Judges accepts first second (inr (f, read, h)) = (f, read, file_accepted (Judges f) accepts second h)
 

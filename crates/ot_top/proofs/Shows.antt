@@ -64,23 +64,29 @@ module _ (words : List (List ℕ)) (holds : List ℕ → Option (List ℕ)) (IsW
     (is_within_limits : (bytes : List ℕ) (f : Function) → IsTextOf bytes f → IsTrue (is_valid f))
     (is_read : (bytes : List ℕ) (f : Function) → IsTextOf bytes f → function_in bytes ≡ Ok f)
     (one_judgement :
-    (f : Function) (bytes : List ℕ) (one other : Result Level JudgeError) → IsTrue (is_valid f) → IsJudgement f bytes one
+    (f : Function) (bytes : List ℕ) (one other : Result Level JudgeError) → IsTrue (is_valid f)
+    → IsJudgement f bytes one
     → IsJudgement f bytes other → one ≡ other)
     (lacks : (f : Function) → InsertsAndDeletesOnPlain f.head → ¬ (HasTp1 f × HasTp2 f))
     (one_list : (p : Plan Why) (w : List Lit) (q r : Questions Why) → QuestionList p w q → QuestionList p w r → q ≡ r)
     (is_explained : IsAnswered words holds status IsWritten → IsExplained words holds IsWritten status)
     (is_templated : IsAnswered words holds status IsWritten → IsTemplated words IsWritten status)
     (is_broken :
-    (e : Evidence) (r : Reply) → 1 ≡ status_of r → IsReply words holds r → IsWritten (text_of r) → IsShownBroken e words holds IsWritten)
-    (is_bounded : (r : Reply) → 0 ≡ status_of r → IsReply words holds r → IsWritten (text_of r) → IsBounded words holds IsWritten)
-    (is_sought : (r : Reply) → IsReply words holds r → IsWritten (text_of r) → IsSought words holds IsWritten (status_of r))
-    (is_followed : (r : Reply) → 0 ≡ status_of r → IsReply words holds r → IsWritten (text_of r) → IsFollowed words holds IsWritten) where
+    (e : Evidence) (r : Reply) → 1 ≡ status_of r → IsReply words holds r → IsWritten (text_of r)
+    → IsShownBroken e words holds IsWritten)
+    (is_bounded : (r : Reply) → 0 ≡ status_of r → IsReply words holds r → IsWritten (text_of r)
+    → IsBounded words holds IsWritten)
+    (is_sought : (r : Reply) → IsReply words holds r → IsWritten (text_of r)
+    → IsSought words holds IsWritten (status_of r))
+    (is_followed : (r : Reply) → 0 ≡ status_of r → IsReply words holds r → IsWritten (text_of r)
+    → IsFollowed words holds IsWritten) where
   -- status 0: the evidence was found, and is written
   shows_proved : (e : Evidence) → status ≡ 0 → IsProved e words holds IsWritten
   shows_proved e zero =
-      let told = answered (of_reply status 0 zero (λ e. omega (arith, e)) (λ e. omega (arith, e)) (λ e. omega (arith, e))) in
-      proved is_text is_within_limits (evidence_level has_level confirm_level) one_judgement e words holds told.0 IsWritten
-      (sym zero ∙ told.3) told.1 told.4
+      let told =
+      answered (of_reply status 0 zero (λ e. omega (arith, e)) (λ e. omega (arith, e)) (λ e. omega (arith, e))) in
+      proved is_text is_within_limits (evidence_level has_level confirm_level) one_judgement e words holds told.0
+      IsWritten (sym zero ∙ told.3) told.1 told.4
 
   -- each status shows what is said of it, from the reply that it is of
   pub shows : StatusShows words holds IsWritten status
@@ -88,18 +94,21 @@ module _ (words : List (List ℕ)) (holds : List ℕ → Option (List ℕ)) (IsW
       record {
         sound =
             λ zero.
-            let told = answered (of_reply status 0 zero (λ e. omega (arith, e)) (λ e. omega (arith, e)) (λ e. omega (arith, e))) in
+            let told = answered (of_reply status 0 zero (λ e. omega (arith, e)) (λ e. omega (arith, e))
+            (λ e. omega (arith, e))) in
             shown has_level is_text words holds told.0 IsWritten (sym zero ∙ told.3) told.1 told.4;
         proved = shows_proved;
         barred = λ e. barred lacks is_read e words holds IsWritten status (shows_proved e);
         broken =
             λ e one.
-            let told = answered (of_reply status 1 one (λ e. omega (arith, e)) (λ e. omega (arith, e)) (λ e. omega (arith, e))) in
+            let told = answered (of_reply status 1 one (λ e. omega (arith, e)) (λ e. omega (arith, e))
+            (λ e. omega (arith, e))) in
             is_broken e told.0 (sym one ∙ told.3) told.1 told.4;
         complete =
             λ of_a_reply.
             let told = answered of_a_reply in
-            subst (λ (s : ℕ). IsComplete words holds s) (sym told.3) (complete is_read one_list words holds told.0 told.1);
+            subst (λ (s : ℕ). IsComplete words holds s) (sym told.3)
+            (complete is_read one_list words holds told.0 told.1);
         judged =
             λ of_a_reply.
             judged is_read words holds status IsWritten (answered of_a_reply);
@@ -113,12 +122,14 @@ module _ (words : List (List ℕ)) (holds : List ℕ → Option (List ℕ)) (IsW
             subst (λ (s : ℕ). IsSought words holds IsWritten s) (sym told.3) (is_sought told.0 told.1 told.4);
         bounded =
             λ zero.
-            let told = answered (of_reply status 0 zero (λ e. omega (arith, e)) (λ e. omega (arith, e)) (λ e. omega (arith, e))) in
+            let told = answered (of_reply status 0 zero (λ e. omega (arith, e)) (λ e. omega (arith, e))
+            (λ e. omega (arith, e))) in
             is_bounded told.0 (sym zero ∙ told.3) told.1 told.4;
         bound_judged = λ of_a_reply. bound_judged is_read words holds status IsWritten (answered of_a_reply);
         confirmed =
             λ zero.
-            let told = answered (of_reply status 0 zero (λ e. omega (arith, e)) (λ e. omega (arith, e)) (λ e. omega (arith, e))) in
+            let told = answered (of_reply status 0 zero (λ e. omega (arith, e)) (λ e. omega (arith, e))
+            (λ e. omega (arith, e))) in
             confirmed confirm_level is_text words holds told.0 IsWritten (sym zero ∙ told.3) told.1 told.4;
         confirm_judged = λ of_a_reply. confirm_judged is_read words holds status IsWritten (answered of_a_reply);
         traced = λ of_a_reply. traced_file is_read words holds status IsWritten (answered of_a_reply);
@@ -127,14 +138,17 @@ module _ (words : List (List ℕ)) (holds : List ℕ → Option (List ℕ)) (IsW
         gone_through = λ of_a_reply. gone_through words holds status IsWritten (answered of_a_reply);
         steady =
             λ name session bytes f named known text agree one.
-            let told = answered (of_reply status 1 one (λ e. omega (arith, e)) (λ e. omega (arith, e)) (λ e. omega (arith, e))) in
+            let told = answered (of_reply status 1 one (λ e. omega (arith, e)) (λ e. omega (arith, e))
+            (λ e. omega (arith, e))) in
             steady is_read words holds told.0 told.2 name session bytes f named known text agree (sym told.3 ∙ one);
         served =
             λ name hub bytes f named known text agree one.
-            let told = answered (of_reply status 1 one (λ e. omega (arith, e)) (λ e. omega (arith, e)) (λ e. omega (arith, e))) in
+            let told = answered (of_reply status 1 one (λ e. omega (arith, e)) (λ e. omega (arith, e))
+            (λ e. omega (arith, e))) in
             served is_read words holds told.0 told.2 name hub bytes f named known text agree (sym told.3 ∙ one);
         followed =
             λ zero.
-            let told = answered (of_reply status 0 zero (λ e. omega (arith, e)) (λ e. omega (arith, e)) (λ e. omega (arith, e))) in
+            let told = answered (of_reply status 0 zero (λ e. omega (arith, e)) (λ e. omega (arith, e))
+            (λ e. omega (arith, e))) in
             is_followed told.0 (sym zero ∙ told.3) told.1 told.4;
       }

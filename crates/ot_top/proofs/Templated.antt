@@ -1,5 +1,6 @@
 -- The reply of `template` is the text of a function that has the level, or that none has both properties.
-use Rattle.std.proofs.Common.{◌⊎◌, ◌≡◌, ◌≢◌, ℕ, true, false, List, Option, Ok, refl, sym, ap, ◌∙◌, subst, inl, inr, arith}
+use Rattle.std.proofs.Common.{◌⊎◌, ◌≡◌, ◌≢◌, ℕ, true, false, List, Option, Ok, refl, sym, ap, ◌∙◌, subst, inl, inr}
+use Rattle.std.proofs.Common.{arith}
 use Rattle.fn_rules.specs.declared.function.Head.{Head}
 use Rattle.fn_rules.specs.declared.function.Level.{Level}
 use Rattle.fn_rules.specs.declared.function.Level.TheVariants.{Tp1, Tp2}
@@ -10,7 +11,7 @@ use Rattle.fn_grammar.specs.Grammar.{IsTextOf}
 use Rattle.fn_grammar.specs.Print.{printed}
 use Rattle.fn_text.specs.Reading.{function_in}
 use Rattle.ot_heads.specs.Heads.{InsertsAndDeletesOnPlain, inserts_and_deletes_on_plain}
-use Rattle.ot_templates.specs.Templates.{template_of}
+use Rattle.ot_heads.specs.Templates.{template_of}
 use Rattle.ot_replies.specs.declared.reply.Reply.{Reply}
 use Rattle.ot_replies.specs.declared.reply.Reply.TheVariants.{NoTemplate}
 use Rattle.ot_replies.specs.Texts.{status_of, text_of}
@@ -49,7 +50,8 @@ module _ (tests : (head : Head) → (inserts_and_deletes_on_plain head ≡ true 
       go (reply_to_asked words holds r (Template level head) named reply)
     where
       go : IsReplyToTemplate level head r
-          → ((status ≡ 0) × ((f : Function) × (bytes : List ℕ) × (f.head ≡ head) × HasLevel f level × IsTextOf bytes f × IsWritten bytes))
+          → ((status ≡ 0) × ((f : Function) × (bytes : List ℕ) × (f.head ≡ head) × HasLevel f level
+          × IsTextOf bytes f × IsWritten bytes))
           ⊎ ((status ≡ 1) × (level ≡ Tp2) × HasNone head × IsWritten (text_of NoTemplate))
       go (inl has) =
           let both = has_none_of level head has.0 in
@@ -70,7 +72,8 @@ module _ (tests : (head : Head) → (inserts_and_deletes_on_plain head ≡ true 
 
 -- the reply is one
 pub template_replied_once :
-    (holds : List ℕ → Option (List ℕ)) (level : Level) (head : Head) (r s : Reply) → IsReplyTo holds (Template level head) r
+    (holds : List ℕ → Option (List ℕ)) (level : Level) (head : Head) (r s : Reply)
+    → IsReplyTo holds (Template level head) r
     → IsReplyTo holds (Template level head) s → r ≡ s
 template_replied_once holds level head r s (inl h) (inl g) = h.1 ∙ sym g.1
 template_replied_once holds level head r s (inr h) (inr g) = h.2 ∙ sym g.2
@@ -79,5 +82,7 @@ template_replied_once holds level head r s (inr h) (inl g) = absurd (let no = h.
 
 -- its status is not 3
 pub template_other : (level : Level) (head : Head) (r : Reply) → IsReplyToTemplate level head r → status_of r ≢ 3
-template_other level head r (inl h) three = let one : 3 ≡ 1 = sym three ∙ ap (λ x. status_of x) h.1 in omega (arith, one)
-template_other level head r (inr h) three = let zero : 3 ≡ 0 = sym three ∙ ap (λ x. status_of x) h.2 in omega (arith, zero)
+template_other level head r (inl h) three = let one : 3 ≡ 1 = sym three
+    ∙ ap (λ x. status_of x) h.1 in omega (arith, one)
+template_other level head r (inr h) three = let zero : 3 ≡ 0 = sym three
+    ∙ ap (λ x. status_of x) h.2 in omega (arith, zero)

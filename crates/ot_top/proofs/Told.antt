@@ -1,6 +1,6 @@
 -- What statuses tell, from the reply that was written.
-use Rattle.std.proofs.Common.{◌≡◌, ◌≢◌, ◌≤◌, ◌⊎◌, ℕ, true, false, Bool, List, length, take, Option, Some, None, Result, Ok, Err, refl, ap, ◌∙◌, subst, inl, inr}
-use Rattle.std.proofs.Common.{arith}
+use Rattle.std.proofs.Common.{◌≡◌, ◌≢◌, ◌≤◌, ◌⊎◌, ℕ, true, false, Bool, List, length, take, Option, Some, None, Result}
+use Rattle.std.proofs.Common.{Ok, Err, refl, ap, ◌∙◌, subst, inl, inr, arith}
 use Rattle.std.specs.Prelude.{is_ok, nat_le, if◌then◌else◌}
 use Rattle.std.proofs.lemmas.Bool.Decides.{nat_tests}
 use Rattle.std.specs.List.{list_all}
@@ -26,9 +26,9 @@ use Rattle.ot_commands.specs.Check.{IsReplyToChecked}
 use Rattle.ot_commands.specs.Drill.{IsDrilled, IsReplyToQuestions}
 use Rattle.ot_commands.specs.Replies.{IsReply}
 use Rattle.ot_commands.specs.Steady.{AreSteady}
-use Rattle.audit_answers.specs.declared.audits.Audit.TheVariants as audits
-use Rattle.audit_answers.specs.declared.audits.Same.TheVariants as sames
-use Rattle.audit_answers.specs.declared.back.Back.TheVariants as backs
+use Rattle.ot_audit.specs.declared.audits.Audit.TheVariants as audits
+use Rattle.ot_audit.specs.declared.audits.Same.TheVariants as sames
+use Rattle.ot_audit.specs.declared.back.Back.TheVariants as backs
 use Rattle.ot_replies.specs.AuditTexts.{is_total}
 use Rattle.ot_replies.specs.DrillTexts.{drill_text}
 use Rattle.ot_replies.specs.Limits.{limit_of}
@@ -40,18 +40,22 @@ use Rattle.ot_commands.proofs.Steady.{steady_asked}
 -- what was answered: the status and the text of a reply, where it is none of the faults and no want of memory
 abbrev pub IsAnswered : List (List ℕ) → (List ℕ → Option (List ℕ)) → ℕ → (List ℕ → Type 0) → Type 0
 IsAnswered words holds status IsWritten =
-    (reply : Reply) × IsReply words holds reply × AreSteady words holds reply × (status ≡ status_of reply) × IsWritten (text_of reply)
+    (reply : Reply) × IsReply words holds reply × AreSteady words holds reply × (status ≡ status_of reply)
+    × IsWritten (text_of reply)
 
 -- one of three statuses, or none of them
 three : (status : ℕ) → ((status ≡ 6) ⊎ ((status ≡ 7) ⊎ (status ≡ 10))) ⊎ ((status ≢ 6) × (status ≢ 7) × (status ≢ 10))
 three status =
-    elim (cases_eq status 6) as (λ _. ((status ≡ 6) ⊎ ((status ≡ 7) ⊎ (status ≡ 10))) ⊎ ((status ≢ 6) × (status ≢ 7) × (status ≢ 10))) [
+    elim (cases_eq status 6) as (λ _. ((status ≡ 6) ⊎ ((status ≡ 7) ⊎ (status ≡ 10)))
+    ⊎ ((status ≢ 6) × (status ≢ 7) × (status ≢ 10))) [
       | inl six ↦ inl (inl six)
       | inr not_six ↦
-          elim (cases_eq status 7) as (λ _. ((status ≡ 6) ⊎ ((status ≡ 7) ⊎ (status ≡ 10))) ⊎ ((status ≢ 6) × (status ≢ 7) × (status ≢ 10))) [
+          elim (cases_eq status 7) as (λ _. ((status ≡ 6) ⊎ ((status ≡ 7) ⊎ (status ≡ 10)))
+          ⊎ ((status ≢ 6) × (status ≢ 7) × (status ≢ 10))) [
             | inl seven ↦ inl (inr (inl seven))
             | inr not_seven ↦
-                elim (cases_eq status 10) as (λ _. ((status ≡ 6) ⊎ ((status ≡ 7) ⊎ (status ≡ 10))) ⊎ ((status ≢ 6) × (status ≢ 7) × (status ≢ 10))) [
+                elim (cases_eq status 10) as (λ _. ((status ≡ 6) ⊎ ((status ≡ 7) ⊎ (status ≡ 10)))
+                ⊎ ((status ≢ 6) × (status ≢ 7) × (status ≢ 10))) [
                   | inl ten ↦ inl (inr (inr ten))
                   | inr not_ten ↦ inr (not_six, not_seven, not_ten)
                 ]
@@ -90,7 +94,8 @@ differ_named None = inl (omega arith)
 differ_named (Some pair) = inl (omega arith)
 
 same_named : (same : Bool) → IsReplyStatus (if same then 0 else 1)
-same_named same = elim same as (λ b. IsReplyStatus (if b then 0 else 1)) [ true ↦ inl (omega arith) | false ↦ inl (omega arith) ]
+same_named same =
+    elim same as (λ b. IsReplyStatus (if b then 0 else 1)) [ true ↦ inl (omega arith) | false ↦ inl (omega arith) ]
 
 -- a trace has such a status, whatever it was made with
 high_named : (test : Bool) → IsReplyStatus (if test then 8 else 9)
@@ -100,7 +105,8 @@ high_named false = nine
 traced_named : (status : ℕ) → IsReplyStatus (traced_status status)
 traced_named status = go (nat_le status 5) refl
   where
-    go : (test : Bool) → nat_le status 5 ≡ test → IsReplyStatus (if test then status else (if nat_le status 8 then 8 else 9))
+    go : (test : Bool) → nat_le status 5 ≡ test
+        → IsReplyStatus (if test then status else (if nat_le status 8 then 8 else 9))
     go true low = inl (grind (arith, nat_tests))
     go false high = high_named (nat_le status 8)
 
@@ -159,7 +165,8 @@ named status answered =
     ]
 
 -- where neither count rises, memory was wanting or the reply was written
-pub whole : (status : ℕ) (Shelf Sink Want Written : Type 0) → (status ≡ 6 → Shelf) → (status ≡ 7 → Sink) → (status ≡ 10 → Want)
+pub whole : (status : ℕ) (Shelf Sink Want Written : Type 0) → (status ≡ 6 → Shelf)
+    → (status ≡ 7 → Sink) → (status ≡ 10 → Want)
     → (status ≢ 6 → status ≢ 7 → status ≢ 10 → Written) → ¬ Shelf → ¬ Sink → ((status ≡ 10) × Want) ⊎ Written
 whole status Shelf Sink Want Written on_shelf on_sink on_want written no_shelf no_sink =
     elim (three status) as (λ _. ((status ≡ 10) × Want) ⊎ Written) [
@@ -190,11 +197,16 @@ gone_through words holds status IsWritten (r, reply, steady, is, written) number
         let d : Drilled = done.1.0 in
         let same : r ≡ replies.Drilled d = done.1.2 in
         let both = agrees d.differ (subst (λ x. status_of x ≢ 1) same other) in
-        inr (is ∙ ap (λ x. status_of x) same ∙ both.1, (d, done.1.1, both.0, subst IsWritten (ap (λ x. text_of x) same) written))
+        inr (
+          is ∙ ap (λ x. status_of x) same
+              ∙ both.1,
+          (d, done.1.1, both.0, subst IsWritten (ap (λ x. text_of x) same) written),
+        )
 
 -- the status of a judgement that is told
 judgement_status :
-    {T : Type 0} (accepts : T → Reply) (judgement : Result T JudgeError) (r : Reply) → ((shown : T) → status_of (accepts shown) ≡ 0)
+    {T : Type 0} (accepts : T → Reply) (judgement : Result T JudgeError) (r : Reply)
+    → ((shown : T) → status_of (accepts shown) ≡ 0)
     → Tells accepts judgement r → status_of r ≡ (if is_ok judgement then 0 else 2)
 judgement_status accepts (Ok shown) r zero tells = ap (λ x. status_of x) tells ∙ zero shown
 judgement_status accepts (Err (judge.Refused offset why)) r zero tells = ap (λ x. status_of x) tells
@@ -203,10 +215,12 @@ judgement_status accepts (Err judge.NoMemory) r zero tells = absurd tells
 
 -- a told certificate within its limit has a judgement, whose status is that of its reply
 pub file_judged :
-    {T : Type 0} (Judges : List ℕ → Result T JudgeError → Type 0) (accepts : T → Reply) → ((shown : T) → status_of (accepts shown) ≡ 0)
+    {T : Type 0} (Judges : List ℕ → Result T JudgeError → Type 0) (accepts : T → Reply)
+    → ((shown : T) → status_of (accepts shown) ≡ 0)
     → (told : Option (List ℕ)) (certificate : List ℕ) (r : Reply) → told ≡ Some certificate
     → length certificate ≤ limit_of files.Certificate → IsReplyToCertificate Judges accepts told r
-    → (judgement : Result T JudgeError) × Judges certificate judgement × (status_of r ≡ (if is_ok judgement then 0 else 2))
+    → (judgement : Result T JudgeError) × Judges certificate judgement
+    × (status_of r ≡ (if is_ok judgement then 0 else 2))
 file_judged Judges accepts zero told certificate r is within (contents, known, (judgement, of_front, reply)) =
     let front : take (limit_of files.Certificate) contents ≡ certificate =
     ap (λ (l : List ℕ). take (limit_of files.Certificate) l) (known certificate is)
@@ -221,10 +235,12 @@ module _ (texts_are_read : (bytes : List ℕ) (f : Function) → IsTextOf bytes 
   pub judged :
       (words : List (List ℕ)) (holds : List ℕ → Option (List ℕ)) (status : ℕ) (IsWritten : List ℕ → Type 0)
       → IsAnswered words holds status IsWritten → IsJudgedAs words holds status
-  judged words holds status IsWritten (r, reply, steady, is, written) name certificate_name bytes certificate f named told certificate_told
-      small text within =
+  judged words holds status IsWritten (r, reply, steady, is, written) name certificate_name bytes certificate f named
+      told certificate_told small text within =
       let gives = reply_to_asked words holds r (Check name certificate_name) named reply in
       let got : IsReplyToChecked f (holds certificate_name) r =
-      gets (holds name) bytes f told small (texts_are_read bytes f text) First (λ g. IsReplyToChecked g (holds certificate_name) r) r gives in
-      let found = file_judged (IsJudgement f) replies.Accepted (λ level. refl) (holds certificate_name) certificate r certificate_told within got in
+      gets (holds name) bytes f told small (texts_are_read bytes f text) First
+      (λ g. IsReplyToChecked g (holds certificate_name) r) r gives in
+      let found = file_judged (IsJudgement f) replies.Accepted (λ level. refl) (holds certificate_name) certificate r
+      certificate_told within got in
       (found.0, found.1, is ∙ found.2)

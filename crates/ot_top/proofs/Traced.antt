@@ -1,5 +1,6 @@
 -- The reply of `trace` has what happened, and the reply of the command that runs the file.
-use Rattle.std.proofs.Common.{◌≡◌, ◌≤◌, ℕ, Bool, true, false, List, length, Option, Some, Ok, refl, ap, ◌∙◌, subst, inl, inr, arith}
+use Rattle.std.proofs.Common.{◌≡◌, ◌≤◌, ℕ, Bool, true, false, List, length, Option, Some, Ok, refl, ap, ◌∙◌, subst, inl}
+use Rattle.std.proofs.Common.{inr, arith}
 use Rattle.std.specs.Prelude.{nat_le, if◌then◌else◌}
 use Rattle.std.proofs.lemmas.Bool.Decides.{nat_tests}
 use Rattle.fn_rules.specs.Functions.{Function}
@@ -19,9 +20,11 @@ use Rattle.ot_top.proofs.Told.{IsAnswered, IsReplyStatus, reply_status}
 
 -- the bytes of a told file within its limit get the reply
 contents_get :
-    (told : Option (List ℕ)) (contents : List ℕ) (BytesGet : List ℕ → Type 0) (r : Reply) → told ≡ Some contents → length contents ≤ limit_of files.Case
+    (told : Option (List ℕ)) (contents : List ℕ) (BytesGet : List ℕ → Type 0) (r : Reply) → told ≡ Some contents
+    → length contents ≤ limit_of files.Case
     → IsReplyToFile files.Case told BytesGet r → BytesGet contents
-contents_get told contents BytesGet r is small (inl longer) = absurd (let more = longer.0 contents is in omega (arith, more, small))
+contents_get told contents BytesGet r is small (inl longer) =
+    absurd (let more = longer.0 contents is in omega (arith, more, small))
 contents_get told contents BytesGet r is small (inr (held, holds, got)) = subst BytesGet (holds.1 contents is) got
 
 -- the status of a reply is that of a trace which ends with it
@@ -41,11 +44,11 @@ pub traced_file :
     ((bytes : List ℕ) (f : Function) → IsTextOf bytes f → function_in bytes ≡ Ok f)
     → (words : List (List ℕ)) (holds : List ℕ → Option (List ℕ)) (status : ℕ) (IsWritten : List ℕ → Type 0)
     → IsAnswered words holds status IsWritten → IsTraced words holds IsWritten status
-traced_file is_read words holds status IsWritten (r, reply, steady, is, written) events name file bytes contents f named told file_told small text
-    within =
+traced_file is_read words holds status IsWritten (r, reply, steady, is, written) events name file bytes contents f named
+    told file_told small text within =
     let got : IsReplyToTracedFile events f (holds file) r =
-    gets (holds name) bytes f told small (is_read bytes f text) First (λ g. IsReplyToTracedFile events g (holds file) r) r
-    (reply_to_asked words holds r (Trace events name file) named reply) in
+    gets (holds name) bytes f told small (is_read bytes f text) First (λ g. IsReplyToTracedFile events g (holds file) r)
+    r (reply_to_asked words holds r (Trace events name file) named reply) in
     let of_bytes : IsReplyToTraced events f contents r =
     contents_get (holds file) contents (λ b. IsReplyToTraced events f b r) r file_told within got in
     let end = of_bytes.1 in

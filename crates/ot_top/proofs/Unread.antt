@@ -1,6 +1,6 @@
 -- The status 3 is that of a function's file that is reached and is the text of no function.
-use Rattle.std.proofs.Common.{◌≡◌, ◌≢◌, ◌+◌, ℕ, true, false, Bool, List, [], ◌∷◌, take, Option, Some, None, Result, Ok, Err, refl, sym, ap, ◌∙◌, subst, inl}
-use Rattle.std.proofs.Common.{inr, arith}
+use Rattle.std.proofs.Common.{◌≡◌, ◌≢◌, ◌+◌, ℕ, true, false, Bool, List, [], ◌∷◌, take, Option, Some, None, Result, Ok}
+use Rattle.std.proofs.Common.{Err, refl, sym, ap, ◌∙◌, subst, inl, inr, arith}
 use Rattle.std.specs.Prelude.{nat_le, if◌then◌else◌}
 use Rattle.ot_words.specs.declared.command.TraceKind.{TraceKind}
 use Rattle.ot_commands.specs.Trace.{IsReplyToTraced, IsTracedAs, TellsCase, TellsHubScript, TellsSession}
@@ -44,22 +44,22 @@ use Rattle.ot_replies.specs.declared.reply.Reply.{Reply}
 use Rattle.ot_replies.specs.declared.reply.Reply.TheVariants as replies
 use Rattle.ot_replies.specs.declared.reply.Subject.{Subject}
 use Rattle.ot_replies.specs.declared.reply.Subject.TheVariants.{First, Second}
-use Rattle.ot_words.specs.Commands.{Asked, Prove, Settle, Check, Integrate, Replay, Hub, Audit, Same, Reverse, Least, Bound, Confirm}
-use Rattle.ot_words.specs.Commands.{Drill, Template, Explain, Trace}
+use Rattle.ot_words.specs.Commands.{Asked, Prove, Settle, Check, Integrate, Replay, Hub, Audit, Same, Reverse, Least}
+use Rattle.ot_words.specs.Commands.{Bound, Confirm, Drill, Template, Explain, Trace}
 use Rattle.ot_words.specs.declared.command.TraceKind.TheVariants as traces
-use Rattle.fn_moves.specs.declared.fault.TextFault.{TextFault}
+use Rattle.fn_tokens.specs.declared.fault.TextFault.{TextFault}
 use Rattle.ot_commands.specs.Explain.{IsReplyToRead, IsReplyToText}
 use Rattle.ot_top.proofs.Explained.{bytes_get, read_other, text_gets}
 use Rattle.ot_top.proofs.Templated.{template_other}
 use Rattle.ot_questions.specs.declared.why.Why.{Why}
 use Rattle.ot_decide.specs.Verdicts.{ObQuestions}
 use Rattle.std.specs.List.{list_all}
-use Rattle.audit_answers.specs.declared.audits.Audit.{Audit as AnyAudit}
-use Rattle.audit_answers.specs.declared.audits.Audit.TheVariants as audits
-use Rattle.audit_answers.specs.declared.audits.Same.{Same as AnySame}
-use Rattle.audit_answers.specs.declared.audits.Same.TheVariants as sames
-use Rattle.audit_answers.specs.declared.back.Back.{Back}
-use Rattle.audit_answers.specs.declared.back.Back.TheVariants as backs
+use Rattle.ot_audit.specs.declared.audits.Audit.{Audit as AnyAudit}
+use Rattle.ot_audit.specs.declared.audits.Audit.TheVariants as audits
+use Rattle.ot_audit.specs.declared.audits.Same.{Same as AnySame}
+use Rattle.ot_audit.specs.declared.audits.Same.TheVariants as sames
+use Rattle.ot_audit.specs.declared.back.Back.{Back}
+use Rattle.ot_audit.specs.declared.back.Back.TheVariants as backs
 use Rattle.ot_replies.specs.AuditTexts.{is_total}
 use Rattle.ot_commands.specs.Bound.{at_least}
 use Rattle.ot_commands.specs.Certificate.{IsReplyToCertificate, Tells}
@@ -102,25 +102,33 @@ refused_case fault r same is = case_other fault (sym (ap (λ x. status_of x) sam
 
 -- what is told of a function that was read has another status, whatever the command
 verdict_other : (f : Function) (verdict : Verdict) (r : Reply) → TellsVerdict f verdict r → status_of r ≢ 3
-verdict_other f (verdicts.Yes bytes asked) r tells = named_so r (replies.Proved bytes.items) 0 tells refl (λ e. omega (arith, e))
-verdict_other f (verdicts.No ob answers why) r tells = named_so r (replies.Broken tells.0) 1 tells.2 refl (λ e. omega (arith, e))
+verdict_other f (verdicts.Yes bytes asked) r tells =
+    named_so r (replies.Proved bytes.items) 0 tells refl (λ e. omega (arith, e))
+verdict_other f (verdicts.No ob answers why) r tells =
+    named_so r (replies.Broken tells.0) 1 tells.2 refl (λ e. omega (arith, e))
 verdict_other f verdicts.Spent r tells = named_so r replies.Spent 8 tells refl (λ e. omega (arith, e))
 
 settled_other : (f : Function) (settled : Settled) (r : Reply) → TellsSettled f settled r → status_of r ≢ 3
-settled_other f (outcomes.Yes bytes) r tells = named_so r (replies.Proved bytes.items) 0 tells refl (λ e. omega (arith, e))
-settled_other f (outcomes.No ob answers why) r tells = named_so r (replies.Broken tells.0) 1 tells.2 refl (λ e. omega (arith, e))
+settled_other f (outcomes.Yes bytes) r tells =
+    named_so r (replies.Proved bytes.items) 0 tells refl (λ e. omega (arith, e))
+settled_other f (outcomes.No ob answers why) r tells =
+    named_so r (replies.Broken tells.0) 1 tells.2 refl (λ e. omega (arith, e))
 settled_other f (outcomes.Spent cause) r tells = named_so r replies.Spent 8 tells refl (λ e. omega (arith, e))
 
 judgement_other :
-    {T : Type 0} (accepts : T → Reply) (judgement : Result T JudgeError) (r : Reply) → ((shown : T) → status_of (accepts shown) ≡ 0)
+    {T : Type 0} (accepts : T → Reply) (judgement : Result T JudgeError) (r : Reply)
+    → ((shown : T) → status_of (accepts shown) ≡ 0)
     → Tells accepts judgement r → status_of r ≢ 3
-judgement_other accepts (Ok shown) r zero tells = named_so r (accepts shown) 0 tells (zero shown) (λ e. omega (arith, e))
-judgement_other accepts (Err (judge.Refused offset why)) r zero tells = named_so r (replies.Refused offset why) 2 tells refl (λ e. omega (arith, e))
+judgement_other accepts (Ok shown) r zero tells =
+    named_so r (accepts shown) 0 tells (zero shown) (λ e. omega (arith, e))
+judgement_other accepts (Err (judge.Refused offset why)) r zero tells =
+    named_so r (replies.Refused offset why) 2 tells refl (λ e. omega (arith, e))
 judgement_other accepts (Err judge.Failed) r zero tells = absurd tells
 judgement_other accepts (Err judge.NoMemory) r zero tells = absurd tells
 
 certificate_other :
-    {T : Type 0} (Judges : List ℕ → Result T JudgeError → Type 0) (accepts : T → Reply) (told : Option (List ℕ)) (r : Reply)
+    {T : Type 0} (Judges : List ℕ → Result T JudgeError → Type 0) (accepts : T → Reply)
+    (told : Option (List ℕ)) (r : Reply)
     → ((shown : T) → status_of (accepts shown) ≡ 0) → IsReplyToCertificate Judges accepts told r → status_of r ≢ 3
 certificate_other Judges accepts told r zero (contents, known, (judgement, judged, inl longer)) =
     named_so r (replies.TooLong files.Certificate) 9 longer.1.1 refl (λ e. omega (arith, e))
@@ -129,23 +137,28 @@ certificate_other Judges accepts told r zero (contents, known, (judgement, judge
 
 told_other : (judgement : Result Level ConfirmError) (r : Reply) → TellsJudgement judgement r → status_of r ≢ 3
 told_other (Ok level) r tells = named_so r (replies.Confirmed level) 0 tells refl (λ e. omega (arith, e))
-told_other (Err (confirm.Refused offset why)) r tells = named_so r (replies.ProofRefused offset why) 2 tells refl (λ e. omega (arith, e))
+told_other (Err (confirm.Refused offset why)) r tells =
+    named_so r (replies.ProofRefused offset why) 2 tells refl (λ e. omega (arith, e))
 told_other (Err confirm.NoMemory) r tells = absurd tells
 
 proof_other : (f : Function) (told : Option (List ℕ)) (r : Reply) → IsReplyToConfirmed f told r → status_of r ≢ 3
 proof_other f told r (contents, known, inl longer) =
     named_so r (replies.TooLong files.Proof) 9 longer.1.1 refl (λ e. omega (arith, e))
-proof_other f told r (contents, known, inr tells) = told_other (judgement_of f (take (limit_of files.Proof) contents)) r tells.1
+proof_other f told r (contents, known, inr tells) =
+    told_other (judgement_of f (take (limit_of files.Proof) contents)) r tells.1
 
 least_other :
     (f : Function) (cert : Bool) (ob : ObName) (w : List Lit) (why : Why) (cells : ℕ) (bytes : List ℕ) (r : Reply)
     → ReplyTellsLeast f cert ob w why cells bytes r → status_of r ≢ 3
-least_other f true ob w why cells bytes r tells = named_so r (replies.Certified bytes) 1 tells refl (λ e. omega (arith, e))
-least_other f false ob w why cells bytes r tells = named_so r (replies.Shortest tells.0 cells) 1 tells.2 refl (λ e. omega (arith, e))
+least_other f true ob w why cells bytes r tells =
+    named_so r (replies.Certified bytes) 1 tells refl (λ e. omega (arith, e))
+least_other f false ob w why cells bytes r tells =
+    named_so r (replies.Shortest tells.0 cells) 1 tells.2 refl (λ e. omega (arith, e))
 
 short_other : (f : Function) (cert : Bool) (short : Short) (r : Reply) → TellsShort f cert short r → status_of r ≢ 3
 short_other f cert shorts.Fine r tells = named_so r replies.Unbroken 0 tells refl (λ e. omega (arith, e))
-short_other f cert (shorts.Least ob answers why cells bytes) r tells = least_other f cert ob _ why cells bytes.items r tells
+short_other f cert (shorts.Least ob answers why cells bytes) r tells =
+    least_other f cert ob _ why cells bytes.items r tells
 short_other f cert shorts.TooLong r tells = named_so r replies.BoundTooLong 9 tells refl (λ e. omega (arith, e))
 short_other f cert shorts.Spent r tells = named_so r replies.Spent 8 tells refl (λ e. omega (arith, e))
 
@@ -198,20 +211,25 @@ hub_other : (hub : HubData) (r : Reply) → TellsHub hub r → status_of r ≢ 3
 hub_other hub (replies.Served end) tells = differ_other end.differ
 hub_other hub _ tells = absurd tells
 
-hub_script_other : (f : Function) (read : Result HubScript CaseFault) (r : Reply) → IsReplyToHubScript f read r → status_of r ≢ 3
+hub_script_other : (f : Function) (read : Result HubScript CaseFault) (r : Reply)
+    → IsReplyToHubScript f read r → status_of r ≢ 3
 hub_script_other f (Err fault) r tells = refused_case fault r tells
 hub_script_other f (Ok script) r tells =
-    runs_other TellsHub IsRefusedHubEvent IsDone 3 hub_other refused_other (begun_hub f script.doc script.clients) 0 script.events r tells
+    runs_other TellsHub IsRefusedHubEvent IsDone 3 hub_other refused_other
+    (begun_hub f script.doc script.clients) 0 script.events r tells
 
-case_end_other : (f : Function) (read : Result Trial CaseFault) (told : List ℕ) (end : Reply) → TellsCase f read told end → status_of end ≢ 3
+case_end_other : (f : Function) (read : Result Trial CaseFault) (told : List ℕ) (end : Reply)
+    → TellsCase f read told end → status_of end ≢ 3
 case_end_other f (Err fault) told end tells = refused_case fault end tells.1
 case_end_other f (Ok t) told end tells = outcomes_other _ end tells.1
 
-session_end_other : (f : Function) (read : Result Script CaseFault) (told : List ℕ) (end : Reply) → TellsSession f read told end → status_of end ≢ 3
+session_end_other : (f : Function) (read : Result Script CaseFault) (told : List ℕ) (end : Reply)
+    → TellsSession f read told end → status_of end ≢ 3
 session_end_other f (Err fault) told end tells = refused_case fault end tells.1
 session_end_other f (Ok script) told end tells = script_other f (Ok script) end tells.1
 
-hub_end_other : (f : Function) (read : Result HubScript CaseFault) (told : List ℕ) (end : Reply) → TellsHubScript f read told end → status_of end ≢ 3
+hub_end_other : (f : Function) (read : Result HubScript CaseFault) (told : List ℕ) (end : Reply)
+    → TellsHubScript f read told end → status_of end ≢ 3
 hub_end_other f (Err fault) told end tells = refused_case fault end tells.1
 hub_end_other f (Ok script) told end tells = hub_script_other f (Ok script) end tells.1
 
@@ -227,13 +245,16 @@ hub_reply_other : (f : Function) (bytes : List ℕ) (r : Reply) → IsReplyToHub
 unfolding IsReplyToHub
 hub_reply_other f bytes r tells = hub_script_other f (hub_script_in bytes) r tells
 
-file_other : (told : Option (List ℕ)) (Gets : List ℕ → Type 0) (r : Reply) → ((bytes : List ℕ) → Gets bytes → status_of r ≢ 3)
+file_other : (told : Option (List ℕ)) (Gets : List ℕ → Type 0) (r : Reply)
+    → ((bytes : List ℕ) → Gets bytes → status_of r ≢ 3)
     → IsReplyToFile files.Case told Gets r → status_of r ≢ 3
-file_other told Gets r other (inl longer) = named_so r (replies.TooLong files.Case) 9 longer.1 refl (λ e. omega (arith, e))
+file_other told Gets r other (inl longer) =
+    named_so r (replies.TooLong files.Case) 9 longer.1 refl (λ e. omega (arith, e))
 file_other told Gets r other (inr gets) = other gets.0 gets.2
 
 -- what is told step by step has the status of the reply that it ends with
-end_other : (events : TraceKind) (f : Function) (bytes told : List ℕ) (end : Reply) → IsTracedAs events f bytes told end → status_of end ≢ 3
+end_other : (events : TraceKind) (f : Function) (bytes told : List ℕ) (end : Reply)
+    → IsTracedAs events f bytes told end → status_of end ≢ 3
 unfolding IsTracedAs
 end_other traces.Case f bytes told end tells = case_end_other f (trial_in f bytes) told end tells
 end_other traces.Session f bytes told end tells = session_end_other f (script_in bytes) told end tells
@@ -250,12 +271,14 @@ status_other s other = go (nat_le s 5)
     go true = other
     go false = high_other (nat_le s 8)
 
-traced_other : (events : TraceKind) (f : Function) (bytes : List ℕ) (r : Reply) → IsReplyToTraced events f bytes r → status_of r ≢ 3
+traced_other : (events : TraceKind) (f : Function) (bytes : List ℕ) (r : Reply)
+    → IsReplyToTraced events f bytes r → status_of r ≢ 3
 traced_other events f bytes r (told, end, lines, tells, says, same) is =
     status_other (status_of end) (end_other events f bytes told end tells) (sym (ap (λ x. status_of x) same) ∙ is)
 
 audit_other : (audit : AnyAudit) (r : Reply) → r ≡ replies.Audited audit → status_of r ≢ 3
-audit_other (audits.Blocks blocks) r same = λ is. same_other (list_all is_total blocks) (sym (ap (λ x. status_of x) same) ∙ is)
+audit_other (audits.Blocks blocks) r same =
+    λ is. same_other (list_all is_total blocks) (sym (ap (λ x. status_of x) same) ∙ is)
 audit_other audits.Spent r same = named_so r _ 8 same refl (λ e. omega (arith, e))
 
 functions_other : (same : AnySame) (r : Reply) → r ≡ replies.Compared same → status_of r ≢ 3
@@ -283,13 +306,15 @@ module _ (texts_are_read : (bytes : List ℕ) (f : Function) → IsTextOf bytes 
   -- a file that is refused is no text of a function, and one that is read is, and goes on
   read_or_not :
       (subject : Subject) (name : List ℕ) (names : List (List ℕ)) (Gets : Function → Type 0)
-      → ((f : Function) → Gets f → IsUnreadFrom holds (status_of r) names) → IsReplyToFunction subject (holds name) Gets r
+      → ((f : Function) → Gets f → IsUnreadFrom holds (status_of r) names)
+      → IsReplyToFunction subject (holds name) Gets r
       → IsUnreadFrom holds (status_of r) (name ∷ names)
   read_or_not subject name names Gets behind (inl (inl longer)) bytes is small =
       absurd (let more = longer.0 bytes is in omega (arith, more, small))
   read_or_not subject name names Gets behind (inl (inr (fault, read, same))) bytes is small = (
     λ none. ap (λ x. status_of x) same,
-    λ f text. absurd (let refused : function_in bytes ≡ Err fault = (read bytes is).1 in let ok = texts_are_read bytes f text in cc),
+    λ f text. absurd (let refused : function_in bytes ≡ Err fault = (read bytes is).1 in
+        let ok = texts_are_read bytes f text in cc),
   )
   read_or_not subject name names Gets behind (inr (f, read, gets)) bytes is small = (
     λ none. absurd (none f (is_text bytes f (read bytes is).1)),
@@ -298,7 +323,8 @@ module _ (texts_are_read : (bytes : List ℕ) (f : Function) → IsTextOf bytes 
 
   -- a text that gets a reply also where it is refused is refused with this status
   refused_text :
-      (level : Level) (bytes : List ℕ) (read : Result Function TextFault) → function_in bytes ≡ read → ((f : Function) → ¬ IsTextOf bytes f)
+      (level : Level) (bytes : List ℕ) (read : Result Function TextFault) → function_in bytes ≡ read
+      → ((f : Function) → ¬ IsTextOf bytes f)
       → IsReplyToRead level bytes read r → status_of r ≡ 3
   refused_text level bytes (Ok f) is none got = absurd (none f (is_text bytes f is))
   refused_text level bytes (Err fault) is none got = ap (λ x. status_of x) got
@@ -307,8 +333,10 @@ module _ (texts_are_read : (bytes : List ℕ) (f : Function) → IsTextOf bytes 
       (level : Level) (name : List ℕ) → IsReplyToFile files.Function (holds name) (λ b. IsReplyToText level b r) r
       → IsUnreadFrom holds (status_of r) (name ∷ [])
   text_or_not level name reply bytes is small =
-      let got : IsReplyToText level bytes r = bytes_get (holds name) bytes (λ b. IsReplyToText level b r) r is small reply in (
-        λ none. refused_text level bytes (function_in bytes) refl none (text_gets level bytes (function_in bytes) r refl got),
+      let got : IsReplyToText level bytes r =
+      bytes_get (holds name) bytes (λ b. IsReplyToText level b r) r is small reply in (
+        λ none. refused_text level bytes (function_in bytes) refl none
+            (text_gets level bytes (function_in bytes) r refl got),
         λ f text. read_other f level r (text_gets level bytes (Ok f) r (texts_are_read bytes f text) got),
       )
 
@@ -321,24 +349,31 @@ module _ (texts_are_read : (bytes : List ℕ) (f : Function) → IsTextOf bytes 
   unread_reply (Explain level name) reply = text_or_not level name reply
   unread_reply (Trace events name file) reply =
       read_or_not First name [] _
-      (λ f gets. file_other (holds file) (λ b. IsReplyToTraced events f b r) r (λ b. traced_other events f b r) gets) reply
+      (λ f gets. file_other (holds file) (λ b. IsReplyToTraced events f b r) r (λ b. traced_other events f b r) gets)
+      reply
   unread_reply (Check name certificate) reply =
-      read_or_not First name [] _ (λ f gets. certificate_other (IsJudgement f) replies.Accepted (holds certificate) r (λ level. refl) gets) reply
+      read_or_not First name [] _ (λ f gets.
+      certificate_other (IsJudgement f) replies.Accepted (holds certificate) r (λ level. refl) gets) reply
   unread_reply (Integrate name case) reply =
-      read_or_not First name [] _ (λ f gets. file_other (holds case) (λ b. IsReplyToCase f b r) r (λ b. case_reply_other f b r) gets) reply
+      read_or_not First name [] _
+      (λ f gets. file_other (holds case) (λ b. IsReplyToCase f b r) r (λ b. case_reply_other f b r) gets) reply
   unread_reply (Replay name session) reply =
       read_or_not First name [] _
       (λ f gets. file_other (holds session) (λ b. IsReplyToSession f b r) r (λ b. session_reply_other f b r) gets) reply
   unread_reply (Hub name hub) reply =
-      read_or_not First name [] _ (λ f gets. file_other (holds hub) (λ b. IsReplyToHub f b r) r (λ b. hub_reply_other f b r) gets) reply
+      read_or_not First name [] _
+      (λ f gets. file_other (holds hub) (λ b. IsReplyToHub f b r) r (λ b. hub_reply_other f b r) gets) reply
   unread_reply (Audit name) reply = read_or_not First name [] _ (λ f gets. audit_other gets.0 r gets.2) reply
   unread_reply (Same name other) reply =
       read_or_not First name (other ∷ []) (λ f. IsReplyToSecond f (holds other) r)
-      (λ f second. read_or_not Second other [] (λ g. IsReplyToTwo f g r) (λ g gets. functions_other gets.0 r gets.2) second) reply
+      (λ f second. read_or_not Second other [] (λ g. IsReplyToTwo f g r)
+      (λ g gets. functions_other gets.0 r gets.2) second) reply
   unread_reply (Reverse name other) reply =
       read_or_not First name (other ∷ []) (λ f. IsReplyToReverser f (holds other) r)
-      (λ f second. read_or_not Second other [] (λ e. IsReplyToReversal f e r) (λ e gets. reversal_other f e r gets) second) reply
-  unread_reply (Least cert name) reply = read_or_not First name [] _ (λ f gets. short_other f cert gets.0 r gets.4) reply
+      (λ f second. read_or_not Second other [] (λ e. IsReplyToReversal f e r)
+      (λ e gets. reversal_other f e r gets) second) reply
+  unread_reply (Least cert name) reply =
+      read_or_not First name [] _ (λ f gets. short_other f cert gets.0 r gets.4) reply
   unread_reply (Bound name certificate) reply =
       read_or_not First name [] _
       (λ f gets. certificate_other (IsLowJudgement f) at_least (holds certificate) r (λ shown. refl) gets) reply

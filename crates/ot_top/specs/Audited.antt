@@ -2,8 +2,8 @@
 use Rattle.std.specs.Prelude.{◌≡◌, ℕ, ◌≤◌, List, length, Option, Some}
 use Rattle.fn_rules.specs.Functions.{Function}
 use Rattle.fn_grammar.specs.Grammar.{IsTextOf}
-use Rattle.audit_answers.specs.declared.audits.Audit.{Audit as Found}
-use Rattle.audit_answers.specs.declared.audits.Same.{Same as Compared}
+use Rattle.ot_audit.specs.declared.audits.Audit.{Audit as Found}
+use Rattle.ot_audit.specs.declared.audits.Same.{Same as Compared}
 use Rattle.ot_audit.specs.Audits.{IsAuditedAs, IsComparedAs}
 use Rattle.ot_replies.specs.declared.reply.FileKind.TheVariants as files
 use Rattle.ot_replies.specs.AuditTexts.{audit_status, audit_text, same_status, same_text}

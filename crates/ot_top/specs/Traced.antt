@@ -11,9 +11,10 @@ use Rattle.ot_words.specs.Commands.{Trace}
 use Rattle.ot_words.specs.Words.{asked_by}
 use Rattle.ot_commands.specs.Trace.{IsTracedAs, SaysWhere}
 
--- the words ask to trace a case, a session or a hub; where both files are told and within their limits, and the first one
--- is the text of a function by the grammar, what happened was written, step by step, behind it the text of the reply of
--- the command that runs the other file, whose status it is, and behind that where the fault is that it tells, if it does
+-- the words ask to trace a case, a session or a hub; where both files are told and within their limits,
+-- and the first one is the text of a function by the grammar, what happened was written, step by step,
+-- behind it the text of the reply of the command that runs the other file, whose status it is, and
+-- behind that where the fault is that it tells, if it does
 abbrev pub IsTraced : List (List ℕ) → (List ℕ → Option (List ℕ)) → (List ℕ → Type 0) → ℕ → Type 0
 IsTraced words holds IsWritten status =
     (events : TraceKind) (name file bytes contents : List ℕ) (f : Function)

@@ -19,7 +19,8 @@ use ot_confirm::proofs_show_the_properties;
 use ot_counter::failing_ends_have_counterexamples;
 use ot_decide::failing_triples_show_tp1;
 use ot_heads::{
-    plain_functions_lack_a_property, plain_text_has_no_transformation, the_test_decides_the_fact,
+    plain_functions_lack_a_property, plain_text_has_no_transformation,
+    templates_have_what_can_be_had, the_test_decides_the_fact,
 };
 use ot_hub::hubs_follow_their_logs;
 use ot_integrate::both_properties_give_one_outcome;
@@ -29,7 +30,6 @@ use ot_outside::{Shelf, Sink, write_all};
 use ot_prove::plans_have_one_question_list;
 use ot_questions::Why;
 use ot_replies::{Reply, status, text};
-use ot_templates::templates_have_what_can_be_had;
 use std::alloc::Global;
 
 /// A file could not be opened or read.

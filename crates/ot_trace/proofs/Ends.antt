@@ -1,6 +1,6 @@
 -- What came of an operation of an order, and what follows on it.
-use Rattle.std.proofs.Common.{◌≡◌, ℕ, ◌+◌, ◌<◌, true, false, List, [], ◌∷◌, ◌++◌, length, drop, get_or, Option, Some, None, refl, sym, ap, ◌∙◌}
-use Rattle.std.proofs.Common.{inl, inr, append_assoc}
+use Rattle.std.proofs.Common.{◌≡◌, ℕ, ◌+◌, ◌<◌, true, false, List, [], ◌∷◌, ◌++◌, length, drop, get_or, Option, Some}
+use Rattle.std.proofs.Common.{None, refl, sym, ap, ◌∙◌, inl, inr, append_assoc}
 use Rattle.std.specs.List.{flat_map}
 use Rattle.std.proofs.lemmas.Bool.{cases_Bool}
 use Rattle.std.proofs.lemmas.List.{drop_more, append-nil}
@@ -9,7 +9,8 @@ use Rattle.ot_model.specs.declared.op.Op.{Op}
 use Rattle.ot_model.specs.Effect.{is_enabled, document_after}
 use Rattle.fn_rules.specs.Functions.{Function}
 use Rattle.fn_rules.specs.Orders.{through, operation_at}
-use Rattle.ot_trace.specs.Orders.{OpEnd, Executed, NoForm, NotEnabled, OpTrace, end_of, op_trace, behind, traces_from, HasEnded}
+use Rattle.ot_trace.specs.Orders.{OpEnd, Executed, NoForm, NotEnabled, OpTrace, end_of, op_trace, behind, traces_from}
+use Rattle.ot_trace.specs.Orders.{HasEnded}
 use Rattle.ot_trace.specs.Texts.{op_lines}
 
 -- a form was executed on a document
@@ -19,7 +20,8 @@ pub record WasExecuted (f : Function) (d : List Cell) (form : Option Op) (p : Op
   pub document : new ≡ document_after f.head.mode p d
   pub end : end_of f d form ≡ Executed p new
 
-pub was_executed : (f : Function) (d : List Cell) (form : Option Op) (p : Op) (new : List Cell) → HasEnded (end_of f d form) d (Some p) new
+pub was_executed : (f : Function) (d : List Cell) (form : Option Op) (p : Op) (new : List Cell)
+    → HasEnded (end_of f d form) d (Some p) new
     → WasExecuted f d form p new
 was_executed f d None p new (wrong, same) = cc
 was_executed f d (Some q) p new ended = elim (cases_Bool (is_enabled q (length d))) [
@@ -38,7 +40,8 @@ was_executed f d (Some q) p new ended = elim (cases_Bool (is_enabled q (length d
 ]
 
 -- nothing follows on a form that was not executed
-pub nothing_behind : (f : Function) (d : List Cell) (form : Option Op) (new : List Cell) (rest : Op → List Cell → List OpTrace)
+pub nothing_behind : (f : Function) (d : List Cell) (form : Option Op) (new : List Cell) (rest : Op
+    → List Cell → List OpTrace)
     → HasEnded (end_of f d form) d None new → behind (end_of f d form) rest ≡ []
 nothing_behind f d None new rest ended = refl
 nothing_behind f d (Some q) new rest ended = elim (cases_Bool (is_enabled q (length d))) [
@@ -48,7 +51,8 @@ nothing_behind f d (Some q) new rest ended = elim (cases_Bool (is_enabled q (len
   | inr refused ↦ rw refused refl
 ]
 
-module _ (f : Function) (d : List Cell) (ops executed : List Op) (order : List ℕ) (i : ℕ) (inside : i < length order) where
+module _ (f : Function) (d : List Cell) (ops executed : List Op) (order : List ℕ) (i : ℕ)
+    (inside : i < length order) where
   abbrev number : ℕ
   number = get_or order i 0
 
@@ -74,5 +78,6 @@ pub end_of-enabled : (f : Function) (d : List Cell) (p : Op) → is_enabled p (l
     → end_of f d (Some p) ≡ Executed p (document_after f.head.mode p d)
 end_of-enabled f d p enabled = rw enabled refl
 
-pub end_of-refused : (f : Function) (d : List Cell) (p : Op) → is_enabled p (length d) ≡ false → end_of f d (Some p) ≡ NotEnabled p (length d)
+pub end_of-refused : (f : Function) (d : List Cell) (p : Op) → is_enabled p (length d) ≡ false
+    → end_of f d (Some p) ≡ NotEnabled p (length d)
 end_of-refused f d p refused = rw refused refl

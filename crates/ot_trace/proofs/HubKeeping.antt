@@ -38,7 +38,8 @@ whole_keeps hub whole keeps (To x) = keeps x
 up_keeps : (hub : HubData) (c : ℕ) (messages : List PlacedOp) → StepKeeps hub (up_with hub c messages)
 up_keeps hub c [] = tt
 up_keeps hub c (message ∷ others) =
-    whole_keeps hub (λ (s : Server). record hub { server = s; clients = slice_set hub.clients (c - 1) (sent (client_of hub c)) })
+    whole_keeps hub
+    (λ (s : Server). record hub { server = s; clients = slice_set hub.clients (c - 1) (sent (client_of hub c)) })
     (λ s. record { is_open = refl; function = refl }) (server_step hub.function c message hub.server)
 
 down_keeps : (hub : HubData) (c : ℕ) (entry : Option Entry) → StepKeeps hub (down_with hub c entry)
@@ -48,12 +49,16 @@ down_keeps hub c (Some entry) =
     (λ x. record { is_open = refl; function = refl }) (client_step hub.function c entry (client_of hub c))
 
 moved_keeps :
-    (hub new : HubData) (c : ℕ) (step : Step HubData) (m : Moved) → StepKeeps hub step → HasMoved hub new c step (Ok m) → Keeps hub new
+    (hub new : HubData) (c : ℕ) (step : Step HubData) (m : Moved) → StepKeeps hub step
+    → HasMoved hub new c step (Ok m) → Keeps hub new
 moved_keeps hub new c step moved.Done keeps done = subst (λ (s : Step HubData). StepKeeps hub s) done.1 keeps
 moved_keeps hub new c step moved.Nothing keeps done = subst (λ (h : HubData). Keeps hub h) (sym done.2) (same_keeps hub)
 
-pub told_keeps : (hub new : HubData) (i : ℕ) (event : HubEvent) (line : List ℕ) → TellsHubEvent hub i event new line → Keeps hub new
+pub told_keeps : (hub new : HubData) (i : ℕ) (event : HubEvent) (line : List ℕ)
+    → TellsHubEvent hub i event new line → Keeps hub new
 told_keeps hub new i (events.Edit c o) line (done, told) =
     subst (λ (h : HubData). Keeps hub h) (sym done.2) (record { is_open = refl; function = refl })
-told_keeps hub new i (events.Up c) line (m, done, told) = moved_keeps hub new c (up_step hub c) m (up_keeps hub c _) done
-told_keeps hub new i (events.Down c) line (m, done, told) = moved_keeps hub new c (down_step hub c) m (down_keeps hub c _) done
+told_keeps hub new i (events.Up c) line (m, done, told) =
+    moved_keeps hub new c (up_step hub c) m (up_keeps hub c _) done
+told_keeps hub new i (events.Down c) line (m, done, told) =
+    moved_keeps hub new c (down_step hub c) m (down_keeps hub c _) done

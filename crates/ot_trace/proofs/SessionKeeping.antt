@@ -10,7 +10,8 @@ use Rattle.ot_session.specs.Making.{HasRefused}
 use Rattle.ot_session.specs.Views.{View, data_in}
 use Rattle.ot_trace.specs.SessionTexts.{TellsEvent}
 
-pub told_is_open : (v new : View) (i : ℕ) (event : Event) (line : List ℕ) → TellsEvent v i event new line → v.is_open ≡ true → new.is_open ≡ true
+pub told_is_open : (v new : View) (i : ℕ) (event : Event) (line : List ℕ) → TellsEvent v i event new line
+    → v.is_open ≡ true → new.is_open ≡ true
 told_is_open v new i (events.Make t o) line (n, done, told) was = done.is_open ∙ was
 told_is_open v new i (events.Take t n) line (took, done, told) was = ap (λ (w : View). w.is_open) done.is
 

@@ -17,7 +17,8 @@ module _ (f : Function) (o : Op) (executed : List Op) (i : ℕ) (other : Op) (in
       → steps_over f o (drop i executed) ≡ step_of f o here ∷ steps_over f p (drop (i + 1) executed)
   steps-next p is = rw (drop_more executed i other inside, is) refl
 
-  pub through-next : (p : Op) → transform_of f o here ≡ Some p → through f o (drop i executed) ≡ through f p (drop (i + 1) executed)
+  pub through-next : (p : Op) → transform_of f o here ≡ Some p
+      → through f o (drop i executed) ≡ through f p (drop (i + 1) executed)
   through-next p is = rw (drop_more executed i other inside, is) refl
 
   -- it has none

@@ -1,6 +1,6 @@
 -- The lines of a hub, event by event. Texts are bytes.
-use Rattle.std.specs.Prelude.{◌≡◌, ◌≢◌, ℕ, nat_eq, if◌then◌else◌, List, [], ◌∷◌, ◌++◌, Option, Some, None, codes, slice_get}
-use Rattle.std.specs.Prelude.{Bool, Result, Ok, Err, option_map}
+use Rattle.std.specs.Prelude.{◌≡◌, ◌≢◌, ℕ, nat_eq, if◌then◌else◌, List, [], ◌∷◌, ◌++◌, Option, Some, None, codes}
+use Rattle.std.specs.Prelude.{slice_get, Bool, Result, Ok, Err, option_map}
 use Rattle.std.specs.Fmt.{decimal}
 use Rattle.std.specs.List.{flat_map}
 use Rattle.ot_model.specs.declared.cell.Cell.{Cell}
@@ -72,7 +72,8 @@ message_op message = option_map (λ m. m.op) message
 -- the message, and what it crosses
 abbrev pub up_front : HubData → ℕ → ℕ → List ℕ
 up_front hub i c =
-    message_line i c (slice_get (client_of hub c).messages 0) ++ flat_map (crossing_lines hub.function) (up_crossings hub c)
+    message_line i c (slice_get (client_of hub c).messages 0)
+    ++ flat_map (crossing_lines hub.function) (up_crossings hub c)
 
 -- the same, and what the server executed
 abbrev pub up_text : HubData → ℕ → ℕ → List Cell → List ℕ

@@ -43,7 +43,8 @@ behind (Executed p d) rest = rest p d
 behind NoForm rest = []
 behind (NotEnabled p cells) rest = []
 
--- the operations that an order still names, where these forms were executed before, up to the first that is not executed
+-- the operations that an order still names, where these forms were executed
+-- before, up to the first that is not executed
 abbrev pub traces_from : Function → List Cell → List Op → List Op → List ℕ → List OpTrace
 traces_from f d ops executed [] = []
 traces_from f d ops executed (i ∷ others) =

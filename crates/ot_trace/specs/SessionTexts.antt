@@ -40,7 +40,8 @@ further_number n = codes " " ++ decimal n
 -- what a site did with an operation that it took, and its document then: it was integrated, and held ones after it, in
 -- this order; it is held; or it is integrated or held there already
 abbrev pub took_line : Took → List Cell → List ℕ
-took_line (Done done) d = codes "  integrated" ++ flat_map further_number done ++ codes " " ++ short_document 0 d ++ 10 ∷ []
+took_line (Done done) d =
+    codes "  integrated" ++ flat_map further_number done ++ codes " " ++ short_document 0 d ++ 10 ∷ []
 took_line Held d = codes "  held" ++ 10 ∷ []
 took_line Repeat d = codes "  repeated" ++ 10 ∷ []
 

@@ -1,5 +1,6 @@
 -- Valuations that are alike give the same answers where the questions compare like with like.
-use Rattle.std.proofs.Common.{◌≡◌, ◌⊎◌, ℕ, ℤ, pos, negsuc, ◌+ℤ◌, ◌≤ℤ◌, ◌<ℤ◌, Bool, true, false, ◌||◌, nat_eq, List, [], ◌∷◌, refl, sym, inl, inr, arith}
+use Rattle.std.proofs.Common.{◌≡◌, ◌⊎◌, ℕ, ℤ, pos, negsuc, ◌+ℤ◌, ◌≤ℤ◌, ◌<ℤ◌, Bool, true, false, ◌||◌, nat_eq, List, []}
+use Rattle.std.proofs.Common.{◌∷◌, refl, sym, inl, inr, arith}
 use Rattle.std.proofs.lemmas.Bool.Decides.{Decides-eqb}
 use Rattle.std.proofs.lemmas.Int.{ints}
 use Rattle.diff_graph.specs.declared.lit.Lit.{Lit}
@@ -41,7 +42,8 @@ spoken_later false b e = e
 
 module _ (These : ℕ → Type 0) (v u : ℕ → ℤ) (alike : AreAlike These v u) where
   met_like :
-      (l : Lit) (sort : Sort) → sort_name l.x ≡ sort → sort_name l.y ≡ sort → IsStill sort l.k → These l.x → These l.y → Meets v l
+      (l : Lit) (sort : Sort) → sort_name l.x ≡ sort → sort_name l.y ≡ sort → IsStill sort l.k
+      → These l.x → These l.y → Meets v l
       → Meets u l
   met_like l Pos ex ey still hx hy met = met_same v u l (alike.same l.x ex hx) (alike.same l.y ey hy) met
   met_like l Site ex ey still hx hy met = met_still v u l (alike.sites l.x l.y ex ey) still met

@@ -11,7 +11,8 @@ use Rattle.ot_values.specs.Values.{ops_at, live_cells}
 
 -- a deletion at 1 and an update at 0
 deletion_and_update :
-    ops_at (valuation_of (pos 0 ∷ pos 2 ∷ pos 0 ∷ pos 1 ∷ pos 1 ∷ pos 97 ∷ pos 0 ∷ pos 2 ∷ pos 98 ∷ [])) (Pair kinds.Del kinds.Upd)
+    ops_at (valuation_of (pos 0 ∷ pos 2 ∷ pos 0 ∷ pos 1 ∷ pos 1 ∷ pos 97 ∷ pos 0 ∷ pos 2 ∷ pos 98 ∷ []))
+    (Pair kinds.Del kinds.Upd)
     ≡ ops.Del (pos 1) 1 ∷ ops.Upd (pos 0) 98 2 ∷ []
 deletion_and_update = refl
 

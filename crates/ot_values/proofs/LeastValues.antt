@@ -21,7 +21,8 @@ pub above : (ob : ObName) (w : List Lit) → AreLike w → IsPossibleAtPositions
 above ob w like (v, z, met, low) = (far_raised w v, far_zero w v z, far_met w v like met, raised_above w v low ob)
 
 pub lowest :
-    (ob : ObName) (w : List Lit) (values : List ℤ) (v : ℕ → ℤ) (x : ℕ) → AreLike w → AreLeast w (floors_of ob) values → v 0 ≡ pos 0
+    (ob : ObName) (w : List Lit) (values : List ℤ) (v : ℕ → ℤ) (x : ℕ) → AreLike w
+    → AreLeast w (floors_of ob) values → v 0 ≡ pos 0
     → AreMet v w → HasNoNegativePosition w v → x < length (floors_of ob) → sort_name x ≡ Pos → speaks_of w x ≡ true
     → valuation_of values x ≤ℤ v x
 lowest ob w values v x like least z met low below e spoken =
@@ -39,7 +40,8 @@ record FloorsAt (ob : ObName) (who : Who) : Type 0 where
 -- the floors of the names of an operation, where the tests of them are passed
 floors_by_tests :
     (ob : ObName) (who : Who) → nat_lt (position_name who) (length (floors_of ob)) ≡ true
-    → nat_lt (site_name who) (length (floors_of ob)) ≡ true → int_le (pos 0) (valuation_of (floors_of ob) (position_name who)) ≡ true
+    → nat_lt (site_name who) (length (floors_of ob)) ≡ true
+    → int_le (pos 0) (valuation_of (floors_of ob) (position_name who)) ≡ true
     → int_le (pos 0) (valuation_of (floors_of ob) (site_name who)) ≡ true
     → int_le (pos 97) (valuation_of (floors_of ob) (char_name who)) ≡ true → FloorsAt ob who
 floors_by_tests ob who position site at_least_0 site_at_least_0 ch_at_least_a = record {
@@ -71,7 +73,8 @@ small_parts ob w values who like least below =
     let v = valuation_of values in
     record {
       within = omega arith;
-      at = from_both (pos 0) _ (v (position_name who)) floors.at (least.above (position_name who) floors.position_below);
+      at =
+          from_both (pos 0) _ (v (position_name who)) floors.at (least.above (position_name who) floors.position_below);
       site = from_both (pos 0) _ (v (site_name who)) floors.site (least.above (site_name who) floors.site_below);
       ch_low = from_both (pos 97) _ (v (char_name who)) floors.ch (least.above (char_name who) below);
       ch_high = small_char ob w values like least who below;

@@ -3,3 +3,9 @@ pub mod Raised
 pub mod Lowered
 pub mod LeastValues
 pub mod Examples
+pub mod Reach
+pub mod Walks
+pub mod Plans
+pub mod Gaps
+pub mod Shorter
+pub mod Ends

@@ -1,7 +1,8 @@
 -- Least characters leave no gap: where a value is not taken, all above it could be one lower. So of three
 -- characters none is more than two above the highest floor.
-use Rattle.std.proofs.Common.{◌≡◌, ◌≢◌, ◌⊎◌, ℕ, zero, suc, ◌<◌, ℤ, pos, ◌-ℤ◌, ◌≤ℤ◌, ◌<ℤ◌, Bool, true, false, ◌||◌, if◌then◌else◌, nat_eq, int_le}
-use Rattle.std.proofs.Common.{List, [], ◌∷◌, length, refl, ap, sym, ◌∙◌, subst, inl, inr, arith}
+use Rattle.std.proofs.Common.{◌≡◌, ◌≢◌, ◌⊎◌, ℕ, zero, suc, ◌<◌, ℤ, pos, ◌-ℤ◌, ◌≤ℤ◌, ◌<ℤ◌, Bool, true, false, ◌||◌}
+use Rattle.std.proofs.Common.{if◌then◌else◌, nat_eq, int_le, List, [], ◌∷◌, length, refl, ap, sym, ◌∙◌, subst, inl, inr}
+use Rattle.std.proofs.Common.{arith}
 use Rattle.std.specs.List.{list_all}
 use Rattle.std.specs.Prelude.{slice_index_or}
 use Rattle.std.specs.Ordering.{int_eq}
@@ -73,13 +74,15 @@ lower_order m s t q r free hq hr =
       | inl s_high ↦
           (let es : q ≡ s -ℤ pos 1 = hq.from s_high in
           elim (side_of m t) [
-            | inl t_high ↦ (let et : r ≡ t -ℤ pos 1 = hr.from t_high in (λ h. omega (arith, ints), λ h. omega (arith, ints)))
+            | inl t_high ↦
+                (let et : r ≡ t -ℤ pos 1 = hr.from t_high in (λ h. omega (arith, ints), λ h. omega (arith, ints)))
             | inr t_low ↦ (let et : r ≡ t = hr.below t_low in (λ h. omega (arith, ints), λ h. omega (arith, ints)))
           ])
       | inr s_low ↦
           (let es : q ≡ s = hq.below s_low in
           elim (side_of m t) [
-            | inl t_high ↦ (let et : r ≡ t -ℤ pos 1 = hr.from t_high in (λ h. omega (arith, ints), λ h. omega (arith, ints)))
+            | inl t_high ↦
+                (let et : r ≡ t -ℤ pos 1 = hr.from t_high in (λ h. omega (arith, ints), λ h. omega (arith, ints)))
             | inr t_low ↦ (let et : r ≡ t = hr.below t_low in (λ h. omega (arith, ints), λ h. omega (arith, ints)))
           ])
     ]
@@ -121,7 +124,8 @@ AnyName x = Unit {0}
 
 -- lowered values are alike, where no character is right below the bound
 alike_lowered :
-    (v : ℕ → ℤ) (m : ℤ) → v 5 ≢ (m -ℤ pos 1) → v 8 ≢ (m -ℤ pos 1) → v 11 ≢ (m -ℤ pos 1) → AreAlike AnyName v (lowered v m)
+    (v : ℕ → ℤ) (m : ℤ) → v 5 ≢ (m -ℤ pos 1) → v 8 ≢ (m -ℤ pos 1) → v 11 ≢ (m -ℤ pos 1)
+    → AreAlike AnyName v (lowered v m)
 alike_lowered v m five eight eleven = record {
   same = λ x e n. ap (λ sort. lower m sort (v x)) e;
   sites = λ x y ex ey. record {
@@ -152,12 +156,16 @@ taken q r m =
           elim (cases_Bool (int_eq r m)) [
             | inl r_is ↦ inr (inr ((Decides-int_eq r m).0 r_is))
             | inr r_not ↦
-                inl (λ e. false≢true (sym q_not ∙ (Decides-int_eq q m).1 e), λ e. false≢true (sym r_not ∙ (Decides-int_eq r m).1 e))
+                inl (
+                  λ e. false≢true (sym q_not ∙ (Decides-int_eq q m).1 e),
+                  λ e. false≢true (sym r_not ∙ (Decides-int_eq r m).1 e),
+                )
           ]
     ]
 
 -- two integers do not take three values
-no_three : (q r : ℤ) → ((q ≡ pos 101) ⊎ (r ≡ pos 101)) → ((q ≡ pos 100) ⊎ (r ≡ pos 100)) → ((q ≡ pos 99) ⊎ (r ≡ pos 99)) → ⊥
+no_three : (q r : ℤ) → ((q ≡ pos 101) ⊎ (r ≡ pos 101)) → ((q ≡ pos 100) ⊎ (r ≡ pos 100))
+    → ((q ≡ pos 99) ⊎ (r ≡ pos 99)) → ⊥
 no_three q r (inl a) (inl b) c = omega (arith, ints)
 no_three q r (inr a) (inr b) c = omega (arith, ints)
 no_three q r (inl a) (inr b) (inl c) = omega (arith, ints)
@@ -186,16 +194,20 @@ gap p q r high =
     ]
 
 -- the floors are low
-low_at : (fls : List ℤ) → list_all (λ fl. int_le fl (pos 99)) fls ≡ true → (x : ℕ) → slice_index_or fls x (pos 0) ≤ℤ pos 99
+low_at : (fls : List ℤ) → list_all (λ fl. int_le fl (pos 99)) fls ≡ true → (x : ℕ)
+    → slice_index_or fls x (pos 0) ≤ℤ pos 99
 low_at [] h x = omega (arith, ints)
-low_at (fl ∷ fls) h zero = int_le-true fl (pos 99) (and_parts (int_le fl (pos 99)) (list_all (λ fl. int_le fl (pos 99)) fls) h).0
-low_at (fl ∷ fls) h (suc x) = low_at fls (and_parts (int_le fl (pos 99)) (list_all (λ fl. int_le fl (pos 99)) fls) h).1 x
+low_at (fl ∷ fls) h zero =
+    int_le-true fl (pos 99) (and_parts (int_le fl (pos 99)) (list_all (λ fl. int_le fl (pos 99)) fls) h).0
+low_at (fl ∷ fls) h (suc x) =
+    low_at fls (and_parts (int_le fl (pos 99)) (list_all (λ fl. int_le fl (pos 99)) fls) h).1 x
 
 floors_low : (ob : ObName) (x : ℕ) → valuation_of (floors_of ob) x ≤ℤ pos 99
 floors_low (Pair k l) x = low_at (floors_of (Pair k l)) refl x
 floors_low (Triple k l m) x = low_at (floors_of (Triple k l m)) refl x
 
-module _ (ob : ObName) (w : List Lit) (values : List ℤ) (like : AreLike w) (least : AreLeast w (floors_of ob) values) where
+module _ (ob : ObName) (w : List Lit) (values : List ℤ) (like : AreLike w)
+    (least : AreLeast w (floors_of ob) values) where
   abbrev v : ℕ → ℤ
   v = valuation_of values
 
@@ -214,9 +226,12 @@ module _ (ob : ObName) (w : List Lit) (values : List ℤ) (like : AreLike w) (le
       omega (arith, ints)
 
   is_high : (who : Who) → char_name who < length (floors_of ob) → pos 102 ≤ℤ v (char_name who) → ⊥
-  is_high A below high = let g = gap (v 5) (v 8) (v 11) high in not_above 5 g.m below refl high g.low g.high g.p_free g.q_free g.r_free
-  is_high B below high = let g = gap (v 8) (v 5) (v 11) high in not_above 8 g.m below refl high g.low g.high g.q_free g.p_free g.r_free
-  is_high C below high = let g = gap (v 11) (v 5) (v 8) high in not_above 11 g.m below refl high g.low g.high g.q_free g.r_free g.p_free
+  is_high A below high = let g = gap (v 5) (v 8) (v 11) high in
+      not_above 5 g.m below refl high g.low g.high g.p_free g.q_free g.r_free
+  is_high B below high = let g = gap (v 8) (v 5) (v 11) high in
+      not_above 8 g.m below refl high g.low g.high g.q_free g.p_free g.r_free
+  is_high C below high = let g = gap (v 11) (v 5) (v 8) high in
+      not_above 11 g.m below refl high g.low g.high g.q_free g.r_free g.p_free
 
   -- no character is above `e`
   pub small_char : (who : Who) → char_name who < length (floors_of ob) → v (char_name who) ≤ℤ pos 101

@@ -1,7 +1,7 @@
 -- Integers that meet answers can be raised above the floors: all sites by one number, and all characters by
 -- another, and a position that the answers do not speak of becomes 0.
-use Rattle.std.proofs.Common.{◌≡◌, ℕ, zero, suc, ◌+◌, ◌≤◌, lit≤, ℤ, pos, negsuc, ◌+ℤ◌, ◌≤ℤ◌, Bool, true, if◌then◌else◌, List, [], ◌∷◌, refl, ap, sym, ◌∙◌}
-use Rattle.std.proofs.Common.{subst, inl, inr, arith}
+use Rattle.std.proofs.Common.{◌≡◌, ℕ, zero, suc, ◌+◌, ◌≤◌, lit≤, ℤ, pos, negsuc, ◌+ℤ◌, ◌≤ℤ◌, Bool, true, if◌then◌else◌}
+use Rattle.std.proofs.Common.{List, [], ◌∷◌, refl, ap, sym, ◌∙◌, subst, inl, inr, arith}
 use Rattle.std.specs.Prelude.{unsigned_abs}
 use Rattle.std.proofs.lemmas.Bool.{cases_Bool}
 use Rattle.std.proofs.lemmas.Int.{ints}
@@ -123,7 +123,10 @@ module _ (w : List Lit) (v : ℕ → ℤ) (low : HasNoNegativePosition w v) wher
           at 3 refl,
           (
             site_above w v A 1 (lit≤ tt),
-            (char_above w v A 97 (lit≤ tt), (at 6 refl, (site_above w v B 2 (lit≤ tt), (char_above w v B 98 (lit≤ tt), h)))),
+            (
+              char_above w v A 97 (lit≤ tt),
+              (at 6 refl, (site_above w v B 2 (lit≤ tt), (char_above w v B 98 (lit≤ tt), h))),
+            ),
           ),
         ),
       ),
@@ -134,14 +137,16 @@ module _ (w : List Lit) (v : ℕ → ℤ) (low : HasNoNegativePosition w v) wher
   raised_above (Pair k l) = meets_floors (floors_of (Pair k l)) (far_raised w v) (first_two [] tt)
   raised_above (Triple k l m) =
       meets_floors (floors_of (Triple k l m)) (far_raised w v)
-      (first_two (pos 0 ∷ pos 3 ∷ pos 99 ∷ []) (at 9 refl, (site_above w v C 3 (lit≤ tt), (char_above w v C 99 (lit≤ tt), tt))))
+      (first_two (pos 0 ∷ pos 3 ∷ pos 99 ∷ [])
+      (at 9 refl, (site_above w v C 3 (lit≤ tt), (char_above w v C 99 (lit≤ tt), tt))))
 
 pub far_zero : (w : List Lit) (v : ℕ → ℤ) → v 0 ≡ pos 0 → far_raised w v 0 ≡ pos 0
 far_zero w v z = zero_raised w v (enough v site_name + 3) (enough v char_name + 99) z
 
 pub far_met : (w : List Lit) (v : ℕ → ℤ) → AreLike w → AreMet v w → AreMet (far_raised w v) w
 far_met w v like met =
-    alike_meet (AreSpoken w) v (far_raised w v) (alike_raised w v (enough v site_name + 3) (enough v char_name + 99)) w like
+    alike_meet (AreSpoken w) v (far_raised w v)
+    (alike_raised w v (enough v site_name + 3) (enough v char_name + 99)) w like
     (λ x e. e) met
 
 pub far_position : (w : List Lit) (v : ℕ → ℤ) (x : ℕ) → sort_name x ≡ Pos → AreSpoken w x → far_raised w v x ≡ v x

@@ -10,9 +10,11 @@
 
 mod instance;
 mod laws;
+mod lengths;
 mod values;
 
 pub use instance::{live_document, op_at};
 pub use laws::answers_have_least_values;
+pub use lengths::first_documents_have_at_most_1000_cells;
 pub use std::alloc::AllocError as NoMemory;
 pub use values::least_values;

@@ -1,5 +1,6 @@
 -- What words ask for is within its bounds.
-use Rattle.std.proofs.Common.{◌≡◌, ℕ, ◌≤◌, ◌<◌, ◌^◌, Bool, true, false, ◌||◌, List, [], ◌∷◌, Option, Some, None, refl, ap, subst, cond}
+use Rattle.std.proofs.Common.{◌≡◌, ℕ, ◌≤◌, ◌<◌, ◌^◌, Bool, true, false, ◌||◌, List, [], ◌∷◌, Option, Some, None, refl}
+use Rattle.std.proofs.Common.{ap, subst, cond}
 use Rattle.std.specs.Prelude.{option_map, option_and_then, codes}
 use Rattle.std.specs.List.{list_any}
 use Rattle.std.specs.Str.{bytes_eq}
@@ -16,13 +17,16 @@ use Rattle.fn_rules.specs.declared.function.Head.{Head}
 use Rattle.fn_rules.specs.declared.function.Level.{Level}
 use Rattle.fn_rules.specs.Functions.{is_declared}
 use Rattle.fn_rules.specs.declared.limits.TheConstants.{MOST_ROUNDS}
-use Rattle.ot_words.specs.Commands.{Asked, Prove, Settle, Check, Integrate, Replay, Hub, Audit, Same, Reverse, Least, Bound, Confirm}
-use Rattle.ot_words.specs.Commands.{Template, Drill, Explain, Trace}
+use Rattle.ot_words.specs.Commands.{Asked, Prove, Settle, Check, Integrate, Replay, Hub, Audit, Same, Reverse, Least}
+use Rattle.ot_words.specs.Commands.{Bound, Confirm, Template, Drill, Explain, Trace}
 use Rattle.ot_words.specs.declared.command.TraceKind.{TraceKind}
 use Rattle.clap_words.specs.Found.{found_by}
-use Rattle.ot_words.specs.Words.{IsWithinBounds, asked_by, audit_in, deciding_app, decision_by, decision_in, drill_app, drill_by, drill_in, explain_by, explain_in, flagged_app, is_given}
-use Rattle.ot_words.specs.Words.{least_by, least_in, level_by, most_questions, most_settling_questions, name_by, names_by, number_by, of_two, prove_in, settle_in, trace_app, trace_by, trace_in, trace_kind, two_in, values_in}
-use Rattle.ot_words.specs.Words.{head_in, kind_named, mode_named, no_kinds, template_app, template_by, template_in, with_further, with_kind, with_named, with_new}
+use Rattle.ot_words.specs.Words.{IsWithinBounds, asked_by, audit_in, deciding_app, decision_by, decision_in, drill_app}
+use Rattle.ot_words.specs.Words.{drill_by, drill_in, explain_by, explain_in, flagged_app, is_given, least_by, least_in}
+use Rattle.ot_words.specs.Words.{level_by, most_questions, most_settling_questions, name_by, names_by, number_by}
+use Rattle.ot_words.specs.Words.{of_two, prove_in, settle_in, trace_app, trace_by, trace_in, trace_kind, two_in}
+use Rattle.ot_words.specs.Words.{values_in, head_in, kind_named, mode_named, no_kinds, template_app, template_by}
+use Rattle.ot_words.specs.Words.{template_in, with_further, with_kind, with_named, with_new}
 
 number_within : (most : ℕ) (text : List ℕ) (n : ℕ) → number_by most text ≡ Some n → n ≤ most
 number_within most text n is = go (is_unsigned_in 1 most text) refl is
@@ -45,7 +49,8 @@ where_not_passed false value refused = refl
 -- a number of 64 bits that is within the bounds is taken
 pub is_taken :
     (most : ℕ) (text : List ℕ) (n : ℕ) → IsNumeral 10 (without_leading_plus text)
-    → digits_value 10 (without_leading_plus text) < 2 ^ 64 → n ≡ digits_value 10 (without_leading_plus text) → 1 ≤ n → n ≤ most
+    → digits_value 10 (without_leading_plus text) < 2 ^ 64
+    → n ≡ digits_value 10 (without_leading_plus text) → 1 ≤ n → n ≤ most
     → Some n ≡ number_by most text
 is_taken most text n numeral small is some few =
     let value : ℕ = digits_value 10 (without_leading_plus text) in
@@ -121,15 +126,18 @@ module _ (most : ℕ) (Asks : Level → ℕ → List ℕ → Asked)
   -- what a deciding command asks for is within its bounds
   decisions_are_within :
       (name otherwise : List ℕ) (words : List (List ℕ))
-      → IsWithin (option_map (λ (found : Level × ℕ × List ℕ). Asks found.0 found.1 found.2) (decision_by name most otherwise words))
+      → IsWithin (option_map (λ (found : Level × ℕ × List ℕ). Asks found.0 found.1 found.2)
+      (decision_by name most otherwise words))
   unfolding decision_by
   decisions_are_within name otherwise words = go (found_by (deciding_app name most otherwise) words)
     where
       go : (found : Option (List Row))
-          → IsWithin (option_map (λ (d : Level × ℕ × List ℕ). Asks d.0 d.1 d.2) (option_and_then (decision_in most) found))
+          → IsWithin (option_map (λ (d : Level × ℕ × List ℕ). Asks d.0 d.1 d.2)
+          (option_and_then (decision_in most) found))
       go None = none_is_within
       go (Some rows) =
-          asked_is_within (level_by (first_of (codes "tp1") rows)) (option_and_then (number_by most) (first_of (codes "budget") rows))
+          asked_is_within (level_by (first_of (codes "tp1") rows))
+          (option_and_then (number_by most) (first_of (codes "budget") rows))
           (first_of (codes "function") rows) (found_within most (first_of (codes "budget") rows))
 
 leasts_are_within : (words : List (List ℕ)) → IsWithin (least_in words)
@@ -163,9 +171,11 @@ traces_are_within words = go (found_by trace_app words)
     go : (found : Option (List Row)) → IsWithin (option_and_then trace_by found)
     go None = none_is_within
     go (Some rows) =
-        trace_is_within (trace_kind (is_given (first_of (codes "session") rows)) (is_given (first_of (codes "hub") rows))) (values_in rows)
+        trace_is_within (trace_kind (is_given (first_of (codes "session") rows))
+        (is_given (first_of (codes "hub") rows))) (values_in rows)
 
-drill_is_within : (number : Option ℕ) → ((n : ℕ) → number ≡ Some n → n ≤ MOST_ROUNDS) → IsWithin (option_map Drill number)
+drill_is_within : (number : Option ℕ) → ((n : ℕ) → number ≡ Some n → n ≤ MOST_ROUNDS)
+    → IsWithin (option_map Drill number)
 drill_is_within None few = none_is_within
 drill_is_within (Some n) few = some_is_within (Drill n) (few n refl)
 
@@ -221,7 +231,8 @@ named_has_kind head word = go (kind_named word)
     go None = none_has_kind
     go (Some k) = new_has_kind head k
 
-further_has_kind : (word : Option (List ℕ)) (found : Option Head) → HaveKind found → HaveKind (option_and_then (with_further word) found)
+further_has_kind : (word : Option (List ℕ)) (found : Option Head) → HaveKind found
+    → HaveKind (option_and_then (with_further word) found)
 further_has_kind word None have = none_has_kind
 further_has_kind None (Some head) have = have
 further_has_kind (Some word) (Some head) have = named_has_kind head word
@@ -258,11 +269,11 @@ within_bounds (word ∷ words) =
     one_of (bytes_eq word (codes "prove")) (prove_in words) _
     (decisions_are_within most_questions Prove (λ level b name few. few) (codes "prove") (codes "1000000") words)
     (one_of (bytes_eq word (codes "settle")) (settle_in words) _
-    (decisions_are_within most_settling_questions Settle (λ level b name few. few) (codes "settle") (codes "30000000") words)
-    (one_of (bytes_eq word (codes "explain")) (explain_in words) _ (explains_are_within words)
+    (decisions_are_within most_settling_questions Settle (λ level b name few. few) (codes "settle") (codes "30000000")
+    words) (one_of (bytes_eq word (codes "explain")) (explain_in words) _ (explains_are_within words)
     (one_of (bytes_eq word (codes "trace")) (trace_in words) _ (traces_are_within words)
-    (one_of (bytes_eq word (codes "audit")) (audit_in words) _ (names_are_within Audit (λ n. tt) (name_by (codes "audit") words))
-    (one_of (bytes_eq word (codes "least")) (least_in words) _ (leasts_are_within words)
+    (one_of (bytes_eq word (codes "audit")) (audit_in words) _ (names_are_within Audit (λ n. tt) (name_by
+    (codes "audit") words)) (one_of (bytes_eq word (codes "least")) (least_in words) _ (leasts_are_within words)
     (one_of (bytes_eq word (codes "template")) (template_in words) _ (templates_are_within words)
     (one_of (bytes_eq word (codes "drill")) (drill_in words) (two_in word words) (drills_are_within words)
     (twos_are_within word (names_by word words)))))))))

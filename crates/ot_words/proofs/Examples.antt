@@ -18,11 +18,13 @@ unfolding clap_on_literals names_by found_by
 empty_name = refl
 
 -- behind `--` a word that begins with `-` is a file name
-behind_dashes : asked_by (codes "check" ∷ codes "--" ∷ codes "-a" ∷ codes "b" ∷ []) ≡ Some (Check (codes "-a") (codes "b"))
+behind_dashes : asked_by (codes "check" ∷ codes "--" ∷ codes "-a" ∷ codes "b" ∷ [])
+    ≡ Some (Check (codes "-a") (codes "b"))
 unfolding clap_on_literals names_by found_by
 behind_dashes = refl
 
-between_dashes : asked_by (codes "check" ∷ codes "a" ∷ codes "--" ∷ codes "--tp1" ∷ []) ≡ Some (Check (codes "a") (codes "--tp1"))
+between_dashes : asked_by (codes "check" ∷ codes "a" ∷ codes "--" ∷ codes "--tp1" ∷ [])
+    ≡ Some (Check (codes "a") (codes "--tp1"))
 unfolding clap_on_literals names_by found_by
 between_dashes = refl
 
@@ -75,11 +77,13 @@ no_options : asked_by (codes "prove" ∷ codes "a" ∷ []) ≡ Some (Prove Tp2 1
 unfolding clap_on_literals decision_by found_by
 no_options = refl
 
-options_before : asked_by (codes "prove" ∷ codes "--budget" ∷ codes "+07" ∷ codes "--tp1" ∷ codes "a" ∷ []) ≡ Some (Prove Tp1 7 (codes "a"))
+options_before : asked_by (codes "prove" ∷ codes "--budget" ∷ codes "+07" ∷ codes "--tp1" ∷ codes "a" ∷ [])
+    ≡ Some (Prove Tp1 7 (codes "a"))
 unfolding clap_on_literals decision_by found_by
 options_before = refl
 
-option_behind : asked_by (codes "prove" ∷ codes "a" ∷ codes "--budget=1000000" ∷ []) ≡ Some (Prove Tp2 1000000 (codes "a"))
+option_behind : asked_by (codes "prove" ∷ codes "a" ∷ codes "--budget=1000000" ∷ [])
+    ≡ Some (Prove Tp2 1000000 (codes "a"))
 unfolding clap_on_literals decision_by found_by
 option_behind = refl
 
@@ -108,7 +112,8 @@ settled_at_its_budget : asked_by (codes "settle" ∷ codes "a" ∷ []) ≡ Some 
 unfolding clap_on_literals decision_by found_by
 settled_at_its_budget = refl
 
-settled_with_the_most : asked_by (codes "settle" ∷ codes "--tp1" ∷ codes "--budget=100000000" ∷ codes "a" ∷ []) ≡ Some (Settle Tp1 100000000 (codes "a"))
+settled_with_the_most : asked_by (codes "settle" ∷ codes "--tp1" ∷ codes "--budget=100000000" ∷ codes "a" ∷ [])
+    ≡ Some (Settle Tp1 100000000 (codes "a"))
 unfolding clap_on_literals decision_by found_by
 settled_with_the_most = refl
 
@@ -143,11 +148,13 @@ traced_case : asked_by (codes "trace" ∷ codes "a" ∷ codes "b" ∷ []) ≡ So
 unfolding clap_on_literals trace_in found_by
 traced_case = refl
 
-traced_session : asked_by (codes "trace" ∷ codes "a" ∷ codes "--session" ∷ codes "b" ∷ []) ≡ Some (Trace traces.Session (codes "a") (codes "b"))
+traced_session : asked_by (codes "trace" ∷ codes "a" ∷ codes "--session" ∷ codes "b" ∷ [])
+    ≡ Some (Trace traces.Session (codes "a") (codes "b"))
 unfolding clap_on_literals trace_in found_by
 traced_session = refl
 
-traced_hub : asked_by (codes "trace" ∷ codes "--hub" ∷ codes "a" ∷ codes "b" ∷ []) ≡ Some (Trace traces.Hub (codes "a") (codes "b"))
+traced_hub : asked_by (codes "trace" ∷ codes "--hub" ∷ codes "a" ∷ codes "b" ∷ [])
+    ≡ Some (Trace traces.Hub (codes "a") (codes "b"))
 unfolding clap_on_literals trace_in found_by
 traced_hub = refl
 
@@ -158,13 +165,16 @@ traced_both = refl
 -- the kinds of `template` stand in any order, each once at the most
 one_kind :
     asked_by (codes "template" ∷ codes "plain" ∷ codes "upd" ∷ [])
-    ≡ Some (Template Tp2 (record { mode = Plain; ins = false; del = false; upd = true; sites_differ = false; chars_differ = false }))
+    ≡ Some (Template Tp2
+    (record { mode = Plain; ins = false; del = false; upd = true; sites_differ = false; chars_differ = false }))
 unfolding clap_on_literals template_in found_by
 one_kind = refl
 
 all_kinds :
-    asked_by (codes "template" ∷ codes "tomb" ∷ codes "--tp1" ∷ codes "upd" ∷ codes "ins" ∷ codes "--sites-differ" ∷ codes "del" ∷ [])
-    ≡ Some (Template Tp1 (record { mode = Tomb; ins = true; del = true; upd = true; sites_differ = true; chars_differ = false }))
+    asked_by (codes "template" ∷ codes "tomb" ∷ codes "--tp1" ∷ codes "upd" ∷ codes "ins"
+    ∷ codes "--sites-differ" ∷ codes "del" ∷ [])
+    ≡ Some (Template Tp1
+    (record { mode = Tomb; ins = true; del = true; upd = true; sites_differ = true; chars_differ = false }))
 unfolding clap_on_literals template_in found_by
 all_kinds = refl
 

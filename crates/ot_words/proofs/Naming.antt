@@ -1,12 +1,13 @@
 -- What the first word asks for, where it is the name of no command but one of two files.
-use Rattle.std.proofs.Common.{◌≡◌, ℕ, suc, ◌≤◌, Bool, true, false, List, [], ◌∷◌, Option, ◌-◌, length, get_or, take, drop, map, refl}
-use Rattle.std.proofs.Common.{ap, ◌∙◌, cond, arith}
+use Rattle.std.proofs.Common.{◌≡◌, ℕ, suc, ◌≤◌, Bool, true, false, List, [], ◌∷◌, Option, ◌-◌, length, get_or, take}
+use Rattle.std.proofs.Common.{drop, map, refl, ap, ◌∙◌, cond, arith}
 use Rattle.std.specs.Prelude.{codes}
 use Rattle.std.specs.Str.{bytes_eq}
 use Rattle.std.proofs.lemmas.List.{take_all}
 use Rattle.std.proofs.lemmas.Slice.Eq.{bytes_eq-Decides}
 use Rattle.ot_words.specs.Commands.{Asked}
-use Rattle.ot_words.specs.Words.{asked_by, audit_in, drill_in, explain_in, least_in, prove_in, settle_in, template_in, trace_in, two_in}
+use Rattle.ot_words.specs.Words.{asked_by, audit_in, drill_in, explain_in, least_in, prove_in, settle_in, template_in}
+use Rattle.ot_words.specs.Words.{trace_in, two_in}
 
 -- a name that is no command's is asked for another one
 passed_by :
@@ -22,9 +23,11 @@ passed_by name command one other asked differ is = go (bytes_eq name command) re
 pub two_named :
     {X : Type 0} (f : X → List ℕ) (words : List X) (first : X) (name : List ℕ) → 1 ≤ length words
     → first ≡ get_or words 0 first → name ≡ f first → (name ≡ codes "prove" → ⊥) → (name ≡ codes "settle" → ⊥)
-    → (name ≡ codes "explain" → ⊥) → (name ≡ codes "trace" → ⊥) → (name ≡ codes "audit" → ⊥) → (name ≡ codes "least" → ⊥) → (name ≡ codes "template" → ⊥) → (name ≡ codes "drill" → ⊥)
+    → (name ≡ codes "explain" → ⊥) → (name ≡ codes "trace" → ⊥) → (name ≡ codes "audit" → ⊥)
+    → (name ≡ codes "least" → ⊥) → (name ≡ codes "template" → ⊥) → (name ≡ codes "drill" → ⊥)
     → two_in name (map f (take (length words - 1) (drop 1 words))) ≡ asked_by (map f words)
-two_named {X} f [] first name some is told prove settle explain trace audit least template drill = absurd (omega (arith, some))
+two_named {X} f [] first name some is told prove settle explain trace audit least template drill =
+    absurd (omega (arith, some))
 two_named {X} f (word ∷ words) first name some is told prove settle explain trace audit least template drill =
     let ws : List (List ℕ) = map f words in
     let asked : Option Asked = two_in name ws in

@@ -19,7 +19,8 @@ no_dashes bs = go (pointwise nat_eq bs (45 ∷ []))
     go false = refl
 
 plain_names :
-    (name f c : List ℕ) → begins_with_dash f ≡ false → begins_with_dash c ≡ false → names_by name (f ∷ c ∷ []) ≡ Some (f, c)
+    (name f c : List ℕ) → begins_with_dash f ≡ false → begins_with_dash c ≡ false
+    → names_by name (f ∷ c ∷ []) ≡ Some (f, c)
 unfolding clap_on_literals names_by found_by
 plain_names name [] [] e h = refl
 plain_names name [] (d ∷ ds) e h = let dash : (d == 45) ≡ false = h in simp (dash, no_dashes ds) refl

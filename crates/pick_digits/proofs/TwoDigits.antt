@@ -1,6 +1,6 @@
 -- The table of the two digits of each number below 100.
-use Rattle.std.proofs.Common.{◌≡◌, ℕ, zero, suc, ◌+◌, ◌*◌, ◌/◌, ◌%◌, ◌<◌, Bool, true, false, ◌&&◌, ◌==◌, List, [], ◌∷◌, length, get_or}
-use Rattle.std.proofs.Common.{arith, refl, sym, ap, ◌∙◌}
+use Rattle.std.proofs.Common.{◌≡◌, ℕ, zero, suc, ◌+◌, ◌*◌, ◌/◌, ◌%◌, ◌<◌, Bool, true, false, ◌&&◌, ◌==◌, List, [], ◌∷◌}
+use Rattle.std.proofs.Common.{length, get_or, arith, refl, sym, ap, ◌∙◌}
 use Rattle.std.proofs.lemmas.Bool.Decides.{nat_tests}
 use Rattle.pick_digits.specs.declared.tens.TheConstants.{DIGITS}
 
@@ -8,7 +8,8 @@ use Rattle.pick_digits.specs.declared.tens.TheConstants.{DIGITS}
 abbrev are_digits_from : ℕ → List ℕ → Bool
 are_digits_from n [] = true
 are_digits_from n (tens ∷ []) = false
-are_digits_from n (tens ∷ units ∷ rest) = (tens == 48 + n / 10) && ((units == 48 + n % 10) && are_digits_from (suc n) rest)
+are_digits_from n (tens ∷ units ∷ rest) =
+    (tens == 48 + n / 10) && ((units == 48 + n % 10) && are_digits_from (suc n) rest)
 
 both : (a b : Bool) → (a && b) ≡ true → (a ≡ true) × (b ≡ true)
 both true b is = (refl, is)

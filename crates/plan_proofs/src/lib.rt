@@ -1,8 +1,8 @@
 //! The search of one plan for a proof with lemmas, and the asker of an obligation whose starts are numbered.
 //!
-//! What the search finds is not trusted: its tree is judged above, with the whole proof, and its answers are walked
-//! once more by integers that meet them. The layer above relies on what is said of the budget and of the asker: no more
-//! is asked than may be, nothing is said only for a cause that is so, and the asker is as it was, but for its count.
+//! What is found is not trusted: a tree is judged above, with the whole proof, and answers are walked once more by
+//! integers that meet them. The layer above relies on this: no more is asked than may be, nothing is said only for a
+//! cause that is so, and the asker is as it was, but for its count.
 #![tactic(auto)]
 
 mod ended;

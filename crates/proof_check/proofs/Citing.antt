@@ -1,5 +1,6 @@
 -- Why a citation is refused at open places.
-use Rattle.std.proofs.Common.{◌≡◌, ℕ, ◌<◌, List, length, map, drop, Option, Some, None, Err, true, false, refl, sym, ◌∙◌, subst}
+use Rattle.std.proofs.Common.{◌≡◌, ℕ, ◌<◌, List, length, map, drop, Option, Some, None, Err, true, false, refl, sym}
+use Rattle.std.proofs.Common.{◌∙◌, subst}
 use Rattle.std.specs.Prelude.{slice_get}
 use Rattle.std.specs.Option.{is_some, option_map}
 use Rattle.std.proofs.lemmas.Option.{slice_get-map}
@@ -27,19 +28,23 @@ none_found : {X Y : Type 0} (f : X → Y) (o : Option X) → option_map f o ≡ 
 none_found f None none = refl
 none_found f (Some x) none = absurd (cc)
 
-module _ {S W : Type 0} (compare : Comparison S) (start : Option S) (found : Option (Learned S W)) (known : List (Learned S W))
+module _ {S W : Type 0} (compare : Comparison S) (start : Option S) (found : Option (Learned S W))
+    (known : List (Learned S W))
     (w : List Lit) (wanted : List (Wanted S W)) where
   no_start : start ≡ None → after_citation compare start found known w wanted ≡ Err error.NoStart
   no_start none = rw none refl
 
-  unknown_lemma : (s : S) → start ≡ Some s → found ≡ None → after_citation compare start found known w wanted ≡ Err error.UnknownLemma
+  unknown_lemma : (s : S) → start ≡ Some s → found ≡ None
+      → after_citation compare start found known w wanted ≡ Err error.UnknownLemma
   unknown_lemma s some none = rw (some, none) refl
 
   other_start :
-      (s : S) (l : Learned S W) → start ≡ Some s → found ≡ Some l → conditions_between compare (start_of l.plan) start ≡ None
+      (s : S) (l : Learned S W) → start ≡ Some s → found ≡ Some l
+      → conditions_between compare (start_of l.plan) start ≡ None
       → after_citation compare start found known w wanted ≡ Err error.OtherStart
   other_start s l some is none =
-      let other : conditions_between compare (start_of l.plan) (Some s) ≡ None = rw some at none in rw (some, is, other) refl
+      let other : conditions_between compare (start_of l.plan) (Some s) ≡ None = rw some at none in
+      rw (some, is, other) refl
 
 start_there : {S : Type 0} (start : Option S) → is_some start ≡ true → (s : S) × (start ≡ Some s)
 start_there None there = absurd (cc)
@@ -61,7 +66,8 @@ module _ {N S W : Type 0} (starts : Starts N S W) (p : OpenProof N) (number : �
       AreSettledPlaces p.wanted → 0 < length p.wanted → ((n : N) → first_node p.wanted ≡ Some n → ⊥)
       → IsRefusedBy starts.compare error.NoStart (token.Cite number) (standing_over starts p)
   refused_at_cycle settled some none =
-      after_first_cycle starts.marked starts.compare p.known p.wanted (token.Cite number) settled some (none_of (first_node p.wanted) none)
+      after_first_cycle starts.marked starts.compare p.known p.wanted (token.Cite number) settled some
+      (none_of (first_node p.wanted) none)
 
   module _ (n : N) (first : first_node p.wanted ≡ Some n) where
     -- no start is there
@@ -70,8 +76,8 @@ module _ {N S W : Type 0} (starts : Starts N S W) (p : OpenProof N) (number : �
         → IsRefusedBy starts.compare error.NoStart (token.Cite number) (standing_over starts p)
     refused_without_start begins =
         after_first_tree starts.marked starts.compare p.known p.wanted (token.Cite number) n first
-        ∙ no_start starts.compare (start_of (starts.marked n)) (slice_get known_there number) known_there (first_list p.wanted)
-        wanted_behind (no_start_there (start_of (starts.marked n)) begins)
+        ∙ no_start starts.compare (start_of (starts.marked n)) (slice_get known_there number) known_there
+        (first_list p.wanted) wanted_behind (no_start_there (start_of (starts.marked n)) begins)
 
     -- the lemma is not known
     pub refused_unknown :
@@ -81,7 +87,8 @@ module _ {N S W : Type 0} (starts : Starts N S W) (p : OpenProof N) (number : �
         let here = start_there (start_of (starts.marked n)) begins in
         let unknown = none_found (λ (k : Known N). k.node) (slice_get p.known number) none in
         after_first_tree starts.marked starts.compare p.known p.wanted (token.Cite number) n first
-        ∙ unknown_lemma starts.compare (start_of (starts.marked n)) (slice_get known_there number) known_there (first_list p.wanted)
+        ∙ unknown_lemma starts.compare (start_of (starts.marked n)) (slice_get known_there number)
+        known_there (first_list p.wanted)
         wanted_behind here.0 here.1 (rw unknown at (slice_get-map (learned_of starts.marked) p.known number))
 
     -- its start does not compare with the one here
@@ -93,12 +100,13 @@ module _ {N S W : Type 0} (starts : Starts N S W) (p : OpenProof N) (number : �
     refused_other lemma begins found none =
         let here = start_there (start_of (starts.marked n)) begins in
         let k = lemma_found p.known number lemma found in
-        let other : conditions_between starts.compare (start_of (starts.marked k.0.node)) (start_of (starts.marked n)) ≡ None =
-        subst (λ (m : N). conditions_between starts.compare (start_of (starts.marked m)) (start_of (starts.marked n)) ≡ None)
-        (sym k.2) none in
+        let other : conditions_between starts.compare (start_of (starts.marked k.0.node))
+        (start_of (starts.marked n)) ≡ None =
+        subst (λ (m : N). conditions_between starts.compare (start_of (starts.marked m)) (start_of (starts.marked n))
+        ≡ None) (sym k.2) none in
         after_first_tree starts.marked starts.compare p.known p.wanted (token.Cite number) n first
-        ∙ other_start starts.compare (start_of (starts.marked n)) (slice_get known_there number) known_there (first_list p.wanted)
-        wanted_behind here.0 (learned_of starts.marked k.0) here.1
+        ∙ other_start starts.compare (start_of (starts.marked n)) (slice_get known_there number) known_there
+        (first_list p.wanted) wanted_behind here.0 (learned_of starts.marked k.0) here.1
         (rw k.1 at (slice_get-map (learned_of starts.marked) p.known number)) other
 
 -- the same where the starts compare after a call
@@ -108,13 +116,16 @@ pub refused_other_since :
     → is_some (start_of (old.marked n)) ≡ true → option_map (λ k. k.node) (slice_get p.known number) ≡ Some lemma
     → conditions_between new.compare (start_of (new.marked lemma)) (start_of (new.marked n)) ≡ None
     → IsRefusedBy old.compare error.OtherStart (token.Cite number) (standing_over old p)
-refused_other_since {S = S} {W = W} {was_own = was_own} {old = old} {new = new} keeps p own number n first lemma begins found none =
+refused_other_since {S = S} {W = W} {was_own = was_own} {old = old} {new = new} keeps p own number n first
+    lemma begins found none =
     let begun : is_some (start_of (new.marked n)) ≡ true =
     rw (keeps.plans n (first_is_own was_own p.wanted n own.1 first)) begins in
     let refused = refused_other new p number n first lemma begun found none in
     let at_old : IsRefusedBy new.compare error.OtherStart (token.Cite number) (standing_over old p) =
-    subst (λ (s : Standing S W). IsRefusedBy new.compare error.OtherStart (token.Cite number) s) (standing_kept keeps p own) refused in
-    subst (λ (c : Comparison S). IsRefusedBy c error.OtherStart (token.Cite number) (standing_over old p)) keeps.compare at_old
+    subst (λ (s : Standing S W). IsRefusedBy new.compare error.OtherStart (token.Cite number) s)
+    (standing_kept keeps p own) refused in
+    subst (λ (c : Comparison S). IsRefusedBy c error.OtherStart (token.Cite number) (standing_over old p)) keeps.compare
+    at_old
 
 -- the lemma's node is one of the asker's own
 pub cited_is_own :
@@ -125,6 +136,7 @@ cited_is_own is_own p own number lemma found =
     subst is_own k.2 (lemma_is_own is_own p.known number k.0 own.0 k.1)
 
 pub cited_is_known :
-    {N : Type 0} (p : OpenProof N) (number : ℕ) (lemma : N) → option_map (λ k. k.node) (slice_get p.known number) ≡ Some lemma
+    {N : Type 0} (p : OpenProof N) (number : ℕ) (lemma : N)
+    → option_map (λ k. k.node) (slice_get p.known number) ≡ Some lemma
     → number < length p.known
 cited_is_known p number lemma found = (lemma_found p.known number lemma found).4

@@ -1,6 +1,6 @@
 -- What completes what is wanted after a token, by what the token leaves of it.
-use Rattle.std.proofs.Common.{◌≡◌, ◌↔◌, ℕ, ◌≤◌, ◌<◌, List, [], ◌∷◌, ◌++◌, length, true, Result, Ok, Err, Option, Some, None, inl, inr, arith, refl, subst, sym}
-use Rattle.std.proofs.Common.{ap, ◌∙◌, append_assoc, nat_lt}
+use Rattle.std.proofs.Common.{◌≡◌, ◌↔◌, ℕ, ◌≤◌, ◌<◌, List, [], ◌∷◌, ◌++◌, length, true, Result, Ok, Err, Option, Some}
+use Rattle.std.proofs.Common.{None, inl, inr, arith, refl, subst, sym, ap, ◌∙◌, append_assoc, nat_lt}
 use Rattle.std.specs.Prelude.{slice_get}
 use Rattle.std.proofs.lemmas.Bool.{cases_Bool}
 use Rattle.std.proofs.lemmas.Bool.Decides.{nat_tests}
@@ -13,13 +13,13 @@ use Rattle.proof_trees.specs.declared.limits.TheConstants.{MAX_LEMMAS, MAX_LITER
 use Rattle.proof_trees.specs.declared.token.ProofTok.{ProofTok}
 use Rattle.proof_trees.specs.declared.token.ProofTok.TheVariants as token
 use Rattle.proof_trees.specs.Starts.{MarkedPlan, Ask, Holds, Fails, start_of, Comparison, conditions_between}
-use Rattle.proof_trees.specs.Proofs.{ProofTree, Question, End, Impossible, Lemma, Citation, Learned, with_lemma, learned, MayLearn, EachFollows, FollowsUnder}
-use Rattle.proof_trees.specs.Proofs.{Serves, Shows}
-use Rattle.proof_trees.specs.Tokens.{proof_tokens_of, cycle_tokens, Wanted, Tree, Cycle, Learn, wanted_cycles, CompletesWanted, HasFew}
+use Rattle.proof_trees.specs.Proofs.{ProofTree, Question, End, Impossible, Lemma, Citation, Learned, with_lemma}
+use Rattle.proof_trees.specs.Proofs.{learned, MayLearn, EachFollows, FollowsUnder, Serves, Shows}
+use Rattle.proof_trees.specs.Tokens.{proof_tokens_of, cycle_tokens, Wanted, Tree, Cycle, Learn, wanted_cycles}
+use Rattle.proof_trees.specs.Tokens.{CompletesWanted, HasFew}
 use Rattle.proof_check.specs.declared.verdict.ProofError.{ProofError}
-use Rattle.proof_check.specs.Steps.{Standing, settled, after_proof_question, after_end, after_cycle, after_lemma, after_comparison, after_citation}
-use Rattle.proof_check.specs.Steps.{after_at_tree}
-use Rattle.proof_check.specs.Steps.{after_at_cycle, after_proof_token}
+use Rattle.proof_check.specs.Steps.{Standing, settled, after_proof_question, after_end, after_cycle, after_lemma}
+use Rattle.proof_check.specs.Steps.{after_comparison, after_citation, after_at_tree, after_at_cycle, after_proof_token}
 
 -- no numbers are no cycle
 cycle_has_picks : (w : List Lit) (picks : List ℕ) → pick_verdict w picks ≡ Ok tt → 1 ≤ length picks
@@ -44,7 +44,8 @@ module _ {S W : Type 0} (compare : Comparison S) where
   CompletesWanted-settled tokens known [] = (λ rest. rest, λ rest. rest)
   CompletesWanted-settled tokens known (Tree p w ∷ wanted) = (λ rest. rest, λ rest. rest)
   CompletesWanted-settled tokens known (Cycle w ∷ wanted) = (λ rest. rest, λ rest. rest)
-  CompletesWanted-settled tokens known (Learn p ls ∷ wanted) = CompletesWanted-settled tokens (with_lemma known p ls) wanted
+  CompletesWanted-settled tokens known (Learn p ls ∷ wanted) =
+      CompletesWanted-settled tokens (with_lemma known p ls) wanted
 
   module _ (known : List (Learned S W)) (w : List Lit) (wanted : List (Wanted S W)) (tokens : List ProofTok) where
     -- a cycle
@@ -105,7 +106,8 @@ module _ {S W : Type 0} (compare : Comparison S) where
     -- a citation whose cycles are there
     cycles_taken :
         (ls : List Lit) (cycles : List (List ℕ)) (rest : List ProofTok) → EachFollows w ls cycles
-        → CompletesWanted compare rest wanted known → CompletesWanted compare (cycle_tokens cycles ++ rest) (wanted_cycles w ls ++ wanted) known
+        → CompletesWanted compare rest wanted known
+        → CompletesWanted compare (cycle_tokens cycles ++ rest) (wanted_cycles w ls ++ wanted) known
     cycles_taken [] [] rest follows later = later
     cycles_taken [] (c ∷ cycles) rest follows later = absurd follows
     cycles_taken (l ∷ ls) [] rest follows later = absurd follows
@@ -114,27 +116,30 @@ module _ {S W : Type 0} (compare : Comparison S) where
 
     comparison_taken :
         (conditions : Option (List Lit)) (ls : List Lit) (cycles : List (List ℕ)) (rest : List ProofTok)
-        → FollowsUnder conditions ls w cycles → tokens ≡ cycle_tokens cycles ++ rest → CompletesWanted compare rest wanted known
+        → FollowsUnder conditions ls w cycles → tokens ≡ cycle_tokens cycles ++ rest
+        → CompletesWanted compare rest wanted known
         → IsCompleted tokens (after_comparison conditions known ls w wanted)
     comparison_taken None ls cycles rest follows same later = absurd follows
     comparison_taken (Some es) ls cycles rest follows same later =
         (CompletesWanted-settled tokens known (wanted_cycles w (ls ++ es) ++ wanted)).0
-        (subst (λ (x : List ProofTok). CompletesWanted compare x (wanted_cycles w (ls ++ es) ++ wanted) known) (sym same)
-        (cycles_taken (ls ++ es) cycles rest follows later))
+        (subst (λ (x : List ProofTok). CompletesWanted compare x (wanted_cycles w (ls ++ es) ++ wanted) known)
+        (sym same) (cycles_taken (ls ++ es) cycles rest follows later))
 
     -- the cycles of a citation that serves, and tokens for what is wanted behind it, complete what it leaves
     citation_taken :
         (start : Option S) (found : Option (Learned S W)) (cycles : List (List ℕ)) (rest : List ProofTok)
-        → Serves compare found start w cycles → tokens ≡ cycle_tokens cycles ++ rest → CompletesWanted compare rest wanted known
+        → Serves compare found start w cycles → tokens ≡ cycle_tokens cycles ++ rest
+        → CompletesWanted compare rest wanted known
         → IsCompleted tokens (after_citation compare start found known w wanted)
     citation_taken None None cycles rest serves same later = absurd serves
     citation_taken None (Some lemma) cycles rest serves same later =
         absurd
-        (subst (λ (x : Option (List Lit)). FollowsUnder x lemma.literals w cycles) (no_start_no_conditions compare (start_of lemma.plan))
-        serves)
+        (subst (λ (x : Option (List Lit)). FollowsUnder x lemma.literals w cycles)
+        (no_start_no_conditions compare (start_of lemma.plan)) serves)
     citation_taken (Some here) None cycles rest serves same later = absurd serves
     citation_taken (Some here) (Some lemma) cycles rest serves same later =
-        comparison_taken (conditions_between compare (start_of lemma.plan) (Some here)) lemma.literals cycles rest serves same later
+        comparison_taken (conditions_between compare (start_of lemma.plan) (Some here)) lemma.literals
+        cycles rest serves same later
 
   -- what begins with the cycles that are wanted
   cycles_begun :
@@ -149,7 +154,8 @@ module _ {S W : Type 0} (compare : Comparison S) where
 
   module _ (known : List (Learned S W)) (w : List Lit) (wanted : List (Wanted S W)) (tokens : List ProofTok) where
     comparison_begun :
-        (conditions : Option (List Lit)) (ls : List Lit) → IsCompleted tokens (after_comparison conditions known ls w wanted)
+        (conditions : Option (List Lit)) (ls : List Lit)
+        → IsCompleted tokens (after_comparison conditions known ls w wanted)
         → (cycles : List (List ℕ)) × (rest : List ProofTok) × FollowsUnder conditions ls w cycles
         × (tokens ≡ cycle_tokens cycles ++ rest) × CompletesWanted compare rest wanted known
     comparison_begun None ls none = absurd none
@@ -158,17 +164,20 @@ module _ {S W : Type 0} (compare : Comparison S) where
         ((CompletesWanted-settled tokens known (wanted_cycles w (ls ++ es) ++ wanted)).1 begun)
 
     citation_begun :
-        (start : Option S) (found : Option (Learned S W)) → IsCompleted tokens (after_citation compare start found known w wanted)
+        (start : Option S) (found : Option (Learned S W))
+        → IsCompleted tokens (after_citation compare start found known w wanted)
         → (cycles : List (List ℕ)) × (rest : List ProofTok) × Serves compare found start w cycles
         × (tokens ≡ cycle_tokens cycles ++ rest) × CompletesWanted compare rest wanted known
     citation_begun None found none = absurd none
     citation_begun (Some here) None none = absurd none
-    citation_begun (Some here) (Some lemma) begun = comparison_begun (conditions_between compare (start_of lemma.plan) (Some here)) lemma.literals begun
+    citation_begun (Some here) (Some lemma) begun =
+        comparison_begun (conditions_between compare (start_of lemma.plan) (Some here)) lemma.literals begun
 
     -- a question
     question_taken :
         (p : MarkedPlan S W) (t u : ProofTree) (rest : List ProofTok) → Shows compare (Question t u) p w known
-        → tokens ≡ (proof_tokens_of t ++ proof_tokens_of u) ++ rest → CompletesWanted compare rest wanted (learned (Question t u) p known)
+        → tokens ≡ (proof_tokens_of t ++ proof_tokens_of u) ++ rest
+        → CompletesWanted compare rest wanted (learned (Question t u) p known)
         → IsCompleted tokens (after_proof_question known p w wanted)
     question_taken (Ask start l on_yes on_no) t u rest shows same later =
         (t, proof_tokens_of u ++ rest, shows.0, rw (← append_assoc) same, (u, rest, shows.1, refl, later))
@@ -206,7 +215,8 @@ module _ {S W : Type 0} (compare : Comparison S) where
         → tok ∷ tokens ≡ proof_tokens_of t ++ rest → CompletesWanted compare rest wanted (learned t p known)
         → IsCompleted tokens (after_at_tree compare tok known p w wanted)
     taken_at_tree token.Ask p (Question t u) rest shows same later =
-        let e : tokens ≡ (proof_tokens_of t ++ proof_tokens_of u) ++ rest = cc in question_taken p t u rest shows e later
+        let e : tokens ≡ (proof_tokens_of t ++ proof_tokens_of u) ++ rest = cc in
+        question_taken p t u rest shows e later
     taken_at_tree token.Ask p End rest shows same later = absurd (cc)
     taken_at_tree token.Ask p (Impossible picks) rest shows same later = absurd (cc)
     taken_at_tree token.Ask p (Lemma ls t u) rest shows same later = absurd (cc)
@@ -236,8 +246,8 @@ module _ {S W : Type 0} (compare : Comparison S) where
         let f : others ≡ ls = cc in
         let both =
         subst
-        (λ (x : List Lit). Shows compare (Lemma x t u) p w known × CompletesWanted compare rest wanted (learned (Lemma x t u) p known)) f
-        (shows, later) in
+        (λ (x : List Lit). Shows compare (Lemma x t u) p w known
+        × CompletesWanted compare rest wanted (learned (Lemma x t u) p known)) f (shows, later) in
         lemma_taken known w wanted tokens (start_of p) p ls t u rest both.0.0 both.0.1 both.0.2 e both.1
     taken_at_tree (token.Lemma ls) p (Citation number cycles) rest shows same later = absurd (cc)
     taken_at_tree (token.Cite number) p (Question t u) rest shows same later = absurd (cc)
@@ -252,7 +262,8 @@ module _ {S W : Type 0} (compare : Comparison S) where
 
     -- any token where a tree is wanted begins a tree that shows the plan, if tokens complete what it leaves
     begun_at_tree :
-        (tok : ProofTok) (p : MarkedPlan S W) → HasFew tok → IsCompleted tokens (after_at_tree compare tok known p w wanted)
+        (tok : ProofTok) (p : MarkedPlan S W) → HasFew tok
+        → IsCompleted tokens (after_at_tree compare tok known p w wanted)
         → CompletesWanted compare (tok ∷ tokens) (Tree p w ∷ wanted) known
     begun_at_tree token.Ask p few begun = question_begun p begun
     begun_at_tree token.Holds p few begun =
@@ -295,7 +306,8 @@ module _ {S W : Type 0} (compare : Comparison S) where
 
   CompletesWanted-taken :
       (tok : ProofTok) (tokens : List ProofTok) (known : List (Learned S W)) (wanted : List (Wanted S W))
-      → CompletesWanted compare (tok ∷ tokens) wanted known → IsCompleted tokens (after_proof_token compare tok known wanted)
+      → CompletesWanted compare (tok ∷ tokens) wanted known
+      → IsCompleted tokens (after_proof_token compare tok known wanted)
   CompletesWanted-taken tok tokens known [] whole = absurd (cc)
   CompletesWanted-taken tok tokens known (Tree p w ∷ wanted) (t, rest, shows, same, later) =
       taken_at_tree known w wanted tokens tok p t rest shows same later
@@ -305,10 +317,13 @@ module _ {S W : Type 0} (compare : Comparison S) where
 
   CompletesWanted-begun :
       (tok : ProofTok) (tokens : List ProofTok) (known : List (Learned S W)) (wanted : List (Wanted S W)) → HasFew tok
-      → IsCompleted tokens (after_proof_token compare tok known wanted) → CompletesWanted compare (tok ∷ tokens) wanted known
+      → IsCompleted tokens (after_proof_token compare tok known wanted)
+      → CompletesWanted compare (tok ∷ tokens) wanted known
   CompletesWanted-begun tok tokens known [] few none = absurd none
-  CompletesWanted-begun tok tokens known (Tree p w ∷ wanted) few begun = begun_at_tree known w wanted tokens tok p few begun
-  CompletesWanted-begun tok tokens known (Cycle w ∷ wanted) few begun = begun_at_cycle known w wanted tokens tok few begun
+  CompletesWanted-begun tok tokens known (Tree p w ∷ wanted) few begun =
+      begun_at_tree known w wanted tokens tok p few begun
+  CompletesWanted-begun tok tokens known (Cycle w ∷ wanted) few begun =
+      begun_at_cycle known w wanted tokens tok few begun
   CompletesWanted-begun tok tokens known (Learn p ls ∷ wanted) few begun =
       CompletesWanted-begun tok tokens (with_lemma known p ls) wanted few begun
 
@@ -328,7 +343,8 @@ module _ {S W : Type 0} (compare : Comparison S) where
 
   -- a token that is refused begins nothing that completes them
   pub CompletesWanted-refused :
-      (tok : ProofTok) (tokens : List ProofTok) (known : List (Learned S W)) (wanted : List (Wanted S W)) (why : ProofError)
+      (tok : ProofTok) (tokens : List ProofTok) (known : List (Learned S W))
+      (wanted : List (Wanted S W)) (why : ProofError)
       → after_proof_token compare tok known wanted ≡ Err why → CompletesWanted compare (tok ∷ tokens) wanted known → ⊥
   CompletesWanted-refused tok tokens known wanted why refused whole =
       subst (λ (x : Result (Standing S W) ProofError). IsCompleted tokens x) refused

@@ -49,13 +49,15 @@ lemma = record { plan = start_plan 3; literals = at_most ∷ [] }
 after-lemma :
     after_proof_token alike (token.Lemma (at_most ∷ [])) [] (Tree (start_plan 3) (at_most ∷ other ∷ []) ∷ [])
     ≡ standing []
-    (Tree (start_plan 3) (at_most ∷ []) ∷ Learn (start_plan 3) (at_most ∷ []) ∷ Tree (start_plan 3) (at_most ∷ other ∷ []) ∷ [])
+    (Tree (start_plan 3) (at_most ∷ []) ∷ Learn (start_plan 3) (at_most ∷ [])
+    ∷ Tree (start_plan 3) (at_most ∷ other ∷ []) ∷ [])
 after-lemma = refl
 
 -- the last token of its tree makes it known; the cycle is one of its own list
 after-last_of_the_lemma :
     after_proof_token alike (token.Cycle (0 ∷ 1 ∷ [])) []
-    (Tree (Fails None 7) (at_most ∷ above ∷ []) ∷ Learn (start_plan 3) (at_most ∷ []) ∷ Tree (start_plan 3) (at_most ∷ other ∷ []) ∷ [])
+    (Tree (Fails None 7) (at_most ∷ above ∷ []) ∷ Learn (start_plan 3) (at_most ∷ [])
+    ∷ Tree (start_plan 3) (at_most ∷ other ∷ []) ∷ [])
     ≡ standing (lemma ∷ []) (Tree (start_plan 3) (at_most ∷ other ∷ []) ∷ [])
 after-last_of_the_lemma = refl
 
@@ -73,38 +75,45 @@ after-citation_under_a_condition = refl
 
 -- the last cycle closes the last place
 after-last_cycle :
-    after_proof_token alike (token.Cycle (0 ∷ 2 ∷ [])) (lemma ∷ []) (Cycle (at_most ∷ other ∷ above ∷ []) ∷ []) ≡ standing (lemma ∷ []) []
+    after_proof_token alike (token.Cycle (0 ∷ 2 ∷ [])) (lemma ∷ []) (Cycle (at_most ∷ other ∷ above ∷ []) ∷ [])
+    ≡ standing (lemma ∷ []) []
 after-last_cycle = refl
 
 -- a lemma without literals at the same start needs no cycles
 after-citation_of_no_literals :
     after_proof_token equal (token.Cite 0) (record { plan = start_plan 3; literals = [] } ∷ [])
     (Tree (start_plan 3) [] ∷ Learn (start_plan 3) (other ∷ []) ∷ Tree (start_plan 3) (other ∷ []) ∷ [])
-    ≡ standing (record { plan = start_plan 3; literals = [] } ∷ record { plan = start_plan 3; literals = other ∷ [] } ∷ [])
-    (Tree (start_plan 3) (other ∷ []) ∷ [])
+    ≡ standing (record { plan = start_plan 3; literals = [] } ∷ record { plan = start_plan 3; literals = other ∷ [] }
+    ∷ []) (Tree (start_plan 3) (other ∷ []) ∷ [])
 after-citation_of_no_literals = refl
 
 -- a refusal of each kind
-after-lemma_at_no_start : after_proof_token equal (token.Lemma []) (lemma ∷ []) (Tree (Holds None) [] ∷ []) ≡ Err error.NoStart
+after-lemma_at_no_start : after_proof_token equal (token.Lemma []) (lemma ∷ [])
+    (Tree (Holds None) [] ∷ []) ≡ Err error.NoStart
 after-lemma_at_no_start = refl
 
-after-citation_at_no_start : after_proof_token equal (token.Cite 0) (lemma ∷ []) (Tree (Holds None) [] ∷ []) ≡ Err error.NoStart
+after-citation_at_no_start : after_proof_token equal (token.Cite 0) (lemma ∷ [])
+    (Tree (Holds None) [] ∷ []) ≡ Err error.NoStart
 after-citation_at_no_start = refl
 
 after-lemma_within_itself :
-    after_proof_token equal (token.Cite 0) [] (Tree (start_plan 3) [] ∷ Learn (start_plan 3) [] ∷ Tree (start_plan 3) [] ∷ [])
+    after_proof_token equal (token.Cite 0) []
+    (Tree (start_plan 3) [] ∷ Learn (start_plan 3) [] ∷ Tree (start_plan 3) [] ∷ [])
     ≡ Err error.UnknownLemma
 after-lemma_within_itself = refl
 
-after-other_start : after_proof_token equal (token.Cite 0) (lemma ∷ []) (Tree (start_plan 5) [] ∷ []) ≡ Err error.OtherStart
+after-other_start : after_proof_token equal (token.Cite 0) (lemma ∷ [])
+    (Tree (start_plan 5) [] ∷ []) ≡ Err error.OtherStart
 after-other_start = refl
 
 after-question_for_a_cycle :
-    after_proof_token equal token.Ask (lemma ∷ []) (Cycle (at_most ∷ above ∷ []) ∷ []) ≡ Err (error.Tree check.NotAQuestion)
+    after_proof_token equal token.Ask (lemma ∷ []) (Cycle (at_most ∷ above ∷ []) ∷ [])
+    ≡ Err (error.Tree check.NotAQuestion)
 after-question_for_a_cycle = refl
 
 after-end_for_a_cycle :
-    after_proof_token equal token.Holds (lemma ∷ []) (Cycle (at_most ∷ above ∷ []) ∷ []) ≡ Err (error.Tree check.GoalFails)
+    after_proof_token equal token.Holds (lemma ∷ []) (Cycle (at_most ∷ above ∷ []) ∷ [])
+    ≡ Err (error.Tree check.GoalFails)
 after-end_for_a_cycle = refl
 
 after-lemma_for_a_cycle :
@@ -112,5 +121,6 @@ after-lemma_for_a_cycle :
 after-lemma_for_a_cycle = refl
 
 after-cycle_of_another_literal :
-    after_proof_token equal (token.Cycle (1 ∷ 2 ∷ [])) (lemma ∷ []) (Cycle (at_most ∷ other ∷ above ∷ []) ∷ []) ≡ Err (error.Tree check.NotACycle)
+    after_proof_token equal (token.Cycle (1 ∷ 2 ∷ [])) (lemma ∷ []) (Cycle (at_most ∷ other ∷ above ∷ []) ∷ [])
+    ≡ Err (error.Tree check.NotACycle)
 after-cycle_of_another_literal = refl

@@ -5,8 +5,8 @@ use Rattle.std.specs.List.{AllByRecursion}
 use Rattle.diff_graph.specs.declared.lit.Lit.{Lit}
 use Rattle.proof_trees.specs.Starters.{Starts, KeepsStarts}
 use Rattle.open_places.specs.declared.places.Known.{Known}
-use Rattle.open_places.specs.Places.{WantedAt, Tree, Cycle, Learn, OpenProof, IsOwnPlace, AreOwnPlaces, first_node, first_list, settled_at, asked, closed}
-use Rattle.open_places.specs.Places.{begun, cited, cycles_at}
+use Rattle.open_places.specs.Places.{WantedAt, Tree, Cycle, Learn, OpenProof, IsOwnPlace, AreOwnPlaces, first_node}
+use Rattle.open_places.specs.Places.{first_list, settled_at, asked, closed, begun, cited, cycles_at}
 use Rattle.proof_check.specs.Standings.{wanted_of, learned_of, standing_of}
 
 module _ {N : Type 0} (is_own : N → Type 0) where
@@ -58,7 +58,8 @@ module _ {N : Type 0} (is_own : N → Type 0) where
     pub own_closed : AreOwnPlaces is_own (closed p)
     own_closed = own_settled p.known (drop 1 p.wanted) own.0 (own_rest p.wanted own.1)
 
-    pub own_asked : (l : Lit) (on_yes on_no : N) → is_own on_yes → is_own on_no → AreOwnPlaces is_own (asked l on_yes on_no p)
+    pub own_asked : (l : Lit) (on_yes on_no : N) → is_own on_yes → is_own on_no
+        → AreOwnPlaces is_own (asked l on_yes on_no p)
     own_asked l on_yes on_no own_yes own_no = (own.0, (own_yes, (own_no, own_rest p.wanted own.1)))
 
     pub own_begun : (n : N) (ls : List Lit) → is_own n → AreOwnPlaces is_own (begun n ls p)
@@ -110,7 +111,8 @@ module _ {N S W : Type 0} {was_own is_own : N → Type 0} {old new : Starts N S 
   own_kept p own = (known_kept p.known own.0, wanted_kept p.wanted own.1)
 
 -- nothing changes of itself
-pub KeepsStarts-refl : {N S W : Type 0} (is_own : N → Type 0) (starts : Starts N S W) → KeepsStarts is_own is_own starts starts
+pub KeepsStarts-refl : {N S W : Type 0} (is_own : N → Type 0) (starts : Starts N S W)
+    → KeepsStarts is_own is_own starts starts
 KeepsStarts-refl is_own starts = record {
   own = λ n. (λ own. own, λ own. own);
   plans = λ n own. refl;

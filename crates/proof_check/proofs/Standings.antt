@@ -1,6 +1,6 @@
 -- The changes of open places are those of the tokens, for nodes with their plans.
-use Rattle.std.proofs.Common.{◌≡◌, ℕ, ◌<◌, List, [], ◌∷◌, ◌++◌, length, map, drop, Option, Some, None, Ok, true, false, arith, refl, sym, ◌∙◌, ap, subst}
-use Rattle.std.proofs.Common.{nat_lt}
+use Rattle.std.proofs.Common.{◌≡◌, ℕ, ◌<◌, List, [], ◌∷◌, ◌++◌, length, map, drop, Option, Some, None, Ok, true, false}
+use Rattle.std.proofs.Common.{arith, refl, sym, ◌∙◌, ap, subst, nat_lt}
 use Rattle.std.specs.Prelude.{slice_get}
 use Rattle.std.proofs.lemmas.List.{map-append, length-map}
 use Rattle.std.proofs.lemmas.Option.{slice_get-map}
@@ -16,8 +16,8 @@ use Rattle.proof_trees.specs.Proofs.{Learned}
 use Rattle.proof_trees.specs.Tokens.{Wanted, wanted_cycles}
 use Rattle.proof_trees.specs.Tokens as plan
 use Rattle.open_places.specs.declared.places.Known.{Known}
-use Rattle.open_places.specs.Places.{WantedAt, Tree, Cycle, Learn, OpenProof, AreSettledPlaces, first_node, first_list, asked, closed, begun, cited, cycles_at}
-use Rattle.open_places.specs.Places.{settled_at}
+use Rattle.open_places.specs.Places.{WantedAt, Tree, Cycle, Learn, OpenProof, AreSettledPlaces, first_node, first_list}
+use Rattle.open_places.specs.Places.{asked, closed, begun, cited, cycles_at, settled_at}
 use Rattle.proof_check.specs.Standings.{wanted_of, learned_of, standing_of}
 use Rattle.proof_check.specs.Steps.{settled, IsTaken, after_proof_token, after_at_cycle, after_at_tree}
 
@@ -28,7 +28,8 @@ module _ {N S W : Type 0} (marked : N → MarkedPlan S W) where
   -- lemmas that are learned at once are the same
   standing_of-settled :
       (known : List (Known N)) (wanted : List (WantedAt N))
-      → settled (map (learned_of marked) known) (map (wanted_of marked) wanted) ≡ standing_of marked (settled_at known wanted)
+      → settled (map (learned_of marked) known) (map (wanted_of marked) wanted)
+      ≡ standing_of marked (settled_at known wanted)
   standing_of-settled known [] = refl
   standing_of-settled known (Tree n w ∷ wanted) = refl
   standing_of-settled known (Cycle w ∷ wanted) = refl
@@ -62,7 +63,8 @@ module _ {N S W : Type 0} (marked : N → MarkedPlan S W) where
 
     pub end_taken :
         (wanted : List (WantedAt N)) (n : N) (start : Option S) → first_node wanted ≡ Some n → marked n ≡ Holds start
-        → IsTaken compare token.Holds (standing_of marked (open_at known wanted)) (standing_of marked (closed (open_at known wanted)))
+        → IsTaken compare token.Holds (standing_of marked (open_at known wanted))
+        (standing_of marked (closed (open_at known wanted)))
     end_taken [] n start first begins = absurd (cc)
     end_taken (Tree m w ∷ wanted) n start first begins =
         let same : m ≡ n = cc in rw (same, begins) (ap Ok (standing_of-settled known wanted))
@@ -89,14 +91,16 @@ module _ {N S W : Type 0} (marked : N → MarkedPlan S W) where
     lemma_taken (Tree m w ∷ wanted) n s ls first begins few =
         let same : m ≡ n = cc in
         let count : length (map (learned_of marked) known) ≡ length known = length-map known (learned_of marked) in
-        let fewer : nat_lt (length (map (learned_of marked) known)) MAX_LEMMAS ≡ true = rw count (grind (arith, nat_tests, few)) in
+        let fewer : nat_lt (length (map (learned_of marked) known)) MAX_LEMMAS ≡ true =
+        rw count (grind (arith, nat_tests, few)) in
         rw (same, begins, fewer) refl
     lemma_taken (Cycle w ∷ wanted) n s ls first begins few = absurd (cc)
     lemma_taken (Learn m ls ∷ wanted) n s others first begins few = absurd (cc)
 
     -- a citation's token is taken where the lemma is known and its start compares with the one here
     pub citation_taken :
-        (wanted : List (WantedAt N)) (n : N) (s : S) (number : ℕ) (k : Known N) (es : List Lit) → first_node wanted ≡ Some n
+        (wanted : List (WantedAt N)) (n : N) (s : S) (number : ℕ) (k : Known N) (es : List Lit)
+        → first_node wanted ≡ Some n
         → start_of (marked n) ≡ Some s → slice_get known number ≡ Some k
         → conditions_between compare (start_of (marked k.node)) (start_of (marked n)) ≡ Some es
         → IsTaken compare (token.Cite number) (standing_of marked (open_at known wanted))
@@ -105,7 +109,8 @@ module _ {N S W : Type 0} (marked : N → MarkedPlan S W) where
     citation_taken (Tree m w ∷ wanted) n s number k es first begins found compared =
         let same : m ≡ n = cc in
         let there = rw found at (slice_get-map (learned_of marked) known number) in
-        let conditions : conditions_between compare (start_of (marked k.node)) (Some s) ≡ Some es = rw begins at compared in
+        let conditions : conditions_between compare (start_of (marked k.node)) (Some s) ≡ Some es =
+        rw begins at compared in
         rw (same, begins, there, conditions)
         (ap Ok
         (ap (λ (x : List (Wanted S W)). settled (map (learned_of marked) known) x)
@@ -127,9 +132,11 @@ module _ {N S W : Type 0} (marked : N → MarkedPlan S W) where
 
     -- and where a cycle is wanted
     pub after_first_cycle :
-        (wanted : List (WantedAt N)) (tok : ProofTok) → AreSettledPlaces wanted → 0 < length wanted → first_node wanted ≡ None
+        (wanted : List (WantedAt N)) (tok : ProofTok) → AreSettledPlaces wanted → 0 < length wanted
+        → first_node wanted ≡ None
         → after_proof_token compare tok (map (learned_of marked) known) (map (wanted_of marked) wanted)
-        ≡ after_at_cycle tok (map (learned_of marked) known) (first_list wanted) (drop 1 (map (wanted_of marked) wanted))
+        ≡ after_at_cycle tok (map (learned_of marked) known) (first_list wanted)
+        (drop 1 (map (wanted_of marked) wanted))
     after_first_cycle [] tok settled some none = absurd (omega arith)
     after_first_cycle (Tree m w ∷ wanted) tok settled some none = absurd (cc)
     after_first_cycle (Cycle w ∷ wanted) tok settled some none = refl

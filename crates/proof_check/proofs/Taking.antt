@@ -1,6 +1,7 @@
 -- What a token makes of open places whose asker was called on the way.
-use Rattle.std.proofs.Common.{◌≡◌, ◌⊎◌, inl, inr, ℕ, ℤ, zero, suc, ◌<◌, ◌≤◌, List, [], ◌∷◌, ◌++◌, length, map, Option, Some, None, Result, Ok, Err, Bool, true}
-use Rattle.std.proofs.Common.{false, refl, sym, ap, ◌∙◌, subst, arith, IsTrue, ◌↔◌}
+use Rattle.std.proofs.Common.{◌≡◌, ◌⊎◌, inl, inr, ℕ, ℤ, zero, suc, ◌<◌, ◌≤◌, List, [], ◌∷◌, ◌++◌, length, map, Option}
+use Rattle.std.proofs.Common.{Some, None, Result, Ok, Err, Bool, true, false, refl, sym, ap, ◌∙◌, subst, arith, IsTrue}
+use Rattle.std.proofs.Common.{◌↔◌}
 use Rattle.std.specs.Prelude.{slice_get, OnOk, IfErr}
 use Rattle.std.specs.Option.{option_map}
 use Rattle.diff_graph.specs.declared.lit.Lit.{Lit}
@@ -12,7 +13,8 @@ use Rattle.cert_check.specs.declared.question.Question.{Question}
 use Rattle.cert_check.specs.Steps.{end_of_cycle}
 use Rattle.proof_trees.specs.declared.token.ProofTok.{ProofTok}
 use Rattle.proof_trees.specs.declared.token.ProofTok.TheVariants as token
-use Rattle.proof_trees.specs.Starts.{MarkedPlan, Ask, Holds, start_of, unmarked, Comparison, conditions_between, IsMarkedBy, IsLawful}
+use Rattle.proof_trees.specs.Starts.{MarkedPlan, Ask, Holds, start_of, unmarked, Comparison, conditions_between}
+use Rattle.proof_trees.specs.Starts.{IsMarkedBy, IsLawful}
 use Rattle.proof_trees.specs.Proofs.{ProofTree, Shows}
 use Rattle.proof_trees.specs.Starters.{Starts, KeepsStarts, IsWhole}
 use Rattle.proof_trees.specs.Tokens.{CompletesWanted, HasFew}
@@ -20,20 +22,23 @@ use Rattle.proof_trees.specs.Truth.{HoldsUnder}
 use Rattle.open_places.specs.declared.places.Known.{Known}
 use Rattle.proof_check.specs.declared.verdict.ProofError.{ProofError}
 use Rattle.proof_check.specs.declared.verdict.ProofError.TheVariants as error
-use Rattle.open_places.specs.Places.{WantedAt, Tree, Cycle, Learn, OpenProof, AreOwnPlaces, AreSettledPlaces, first_node, first_list, asked, closed, cited}
-use Rattle.open_places.specs.Places.{literals_at}
+use Rattle.open_places.specs.Places.{WantedAt, Tree, Cycle, Learn, OpenProof, AreOwnPlaces, AreSettledPlaces}
+use Rattle.open_places.specs.Places.{first_node, first_list, asked, closed, cited, literals_at}
 use Rattle.proof_check.specs.Standings.{wanted_of, learned_of}
 use Rattle.proof_check.specs.Questions.{IsAskedHere, SkipsTo}
 use Rattle.proof_check.specs.Steps.{Standing, after_proof_token, IsTaken}
-use Rattle.proof_check.specs.Judging.{IsProofUnderWay, IsUnderWayUnless, standing_over, AreCompleted, IsProofCauseOf, IsRefusedBy, IsWantOfMemory}
+use Rattle.proof_check.specs.Judging.{IsProofUnderWay, IsUnderWayUnless, standing_over, AreCompleted, IsProofCauseOf}
+use Rattle.proof_check.specs.Judging.{IsRefusedBy, IsWantOfMemory}
 use Rattle.proof_check.proofs.Completing.{CompletesWanted-step, CompletesWanted-refused}
 use Rattle.proof_check.proofs.Keeping.{KeepsStarts-refl, standing_kept, own_asked, own_closed, own_kept}
 use Rattle.proof_check.proofs.Standings.{question_taken, end_taken, cycle_taken, citation_taken}
 
 -- a lemma that is found, and its literals
 pub lemma_found :
-    {N : Type 0} (known : List (Known N)) (number : ℕ) (n : N) → option_map (λ k. k.node) (slice_get known number) ≡ Some n
-    → (k : Known N) × (slice_get known number ≡ Some k) × (k.node ≡ n) × (k.literals ≡ literals_at known number) × (number < length known)
+    {N : Type 0} (known : List (Known N)) (number : ℕ) (n : N)
+    → option_map (λ k. k.node) (slice_get known number) ≡ Some n
+    → (k : Known N) × (slice_get known number ≡ Some k) × (k.node ≡ n) × (k.literals ≡ literals_at known number)
+    × (number < length known)
 lemma_found [] number n found = absurd (cc)
 lemma_found (k ∷ known) zero n found = let same : k.node ≡ n = cc in (k, refl, same, refl, omega arith)
 lemma_found (k ∷ known) (suc number) n found =
@@ -41,7 +46,8 @@ lemma_found (k ∷ known) (suc number) n found =
 
 -- starts that compare are there
 compared_start :
-    {S : Type 0} (compare : Comparison S) (there here : Option S) (es : List Lit) → conditions_between compare there here ≡ Some es
+    {S : Type 0} (compare : Comparison S) (there here : Option S) (es : List Lit)
+    → conditions_between compare there here ≡ Some es
     → (s : S) × (here ≡ Some s)
 compared_start compare None here es compared = absurd (cc)
 compared_start compare (Some s) None es compared = absurd (cc)
@@ -84,10 +90,11 @@ module _ {N S W : Type 0} {was_own is_own : N → Type 0} {old new : Starts N S 
       let k = lemma_found p.known number lemma found in
       let here = compared_start new.compare (start_of (new.marked lemma)) (start_of (new.marked n)) es compared in
       let same : conditions_between new.compare (start_of (new.marked k.0.node)) (start_of (new.marked n)) ≡ Some es =
-      subst (λ (m : N). conditions_between new.compare (start_of (new.marked m)) (start_of (new.marked n)) ≡ Some es) (sym k.2) compared in
+      subst (λ (m : N). conditions_between new.compare (start_of (new.marked m)) (start_of (new.marked n))
+      ≡ Some es) (sym k.2) compared in
       since_before (token.Cite number) (standing_over new (cited (literals_at p.known number ++ es) p))
-      (subst (λ (ls : List Lit). IsTaken new.compare (token.Cite number) (standing_over new p) (standing_over new (cited (ls ++ es) p)))
-      k.3
+      (subst (λ (ls : List Lit). IsTaken new.compare (token.Cite number) (standing_over new p)
+      (standing_over new (cited (ls ++ es) p))) k.3
       (citation_taken new.marked new.compare p.known p.wanted n here.0 number k.0 es first here.1 k.1 same))
 
   -- a token that is taken keeps that the asker's plan follows from what is wanted
@@ -99,8 +106,8 @@ module _ {N S W : Type 0} {was_own is_own : N → Type 0} {old new : Starts N S 
     follows = λ tokens rest.
         subst (λ (q : MarkedPlan S W). HoldsUnder [] (unmarked q)) (sym keeps.root)
         (way.follows (tok ∷ tokens)
-        ((CompletesWanted-step old.compare tok tokens (standing_over old p).known (standing_over old p).wanted (standing_over new next) few
-        taken).1
+        ((CompletesWanted-step old.compare tok tokens (standing_over old p).known (standing_over old p).wanted
+        (standing_over new next) few taken).1
         (subst (λ (c : Comparison S). AreCompleted c tokens (standing_over new next)) keeps.compare rest)));
   }
 
@@ -120,10 +127,12 @@ module _ {N S W : Type 0} (is_own : N → Type 0) (starts : Starts N S W) where
   -- a cycle at a place that takes a token
   module _ (p : OpenProof N) (settled : AreSettledPlaces p.wanted) (some : 0 < length p.wanted) (picks : List ℕ)
       (is : pick_verdict (first_list p.wanted) picks ≡ Ok tt) where
-    pub cycle_here : IsTaken starts.compare (token.Cycle picks) (standing_over starts p) (standing_over starts (closed p))
+    pub cycle_here : IsTaken starts.compare (token.Cycle picks) (standing_over starts p)
+        (standing_over starts (closed p))
     cycle_here = cycle_taken starts.marked starts.compare p.known p.wanted picks settled some is
 
-    pub under_way_closed : IsProofUnderWay is_own starts p → length picks ≤ MAX_PICKS → IsProofUnderWay is_own starts (closed p)
+    pub under_way_closed : IsProofUnderWay is_own starts p → length picks ≤ MAX_PICKS
+        → IsProofUnderWay is_own starts (closed p)
     under_way_closed way few =
         IsProofUnderWay-taken (KeepsStarts-refl is_own starts) p way.own (token.Cycle picks) (closed p) way
         (own_closed is_own p way.own) few cycle_here
@@ -135,8 +144,8 @@ module _ {N S W : Type 0} (is_own : N → Type 0) (starts : Starts N S W) where
 
     pub question_here : IsTaken starts.compare token.Ask (standing_over starts p) (standing_over starts after_it)
     question_here =
-        question_taken starts.marked starts.compare p.known p.wanted here.node q.yes q.no q.lit (start_of (starts.marked here.node))
-        here.first here.asks
+        question_taken starts.marked starts.compare p.known p.wanted here.node q.yes q.no q.lit
+        (start_of (starts.marked here.node)) here.first here.asks
 
     pub under_way_asked : IsProofUnderWay is_own starts p → IsProofUnderWay is_own starts after_it
     under_way_asked way =
@@ -153,7 +162,8 @@ module _ {N S W : Type 0} (is_own : N → Type 0) (starts : Starts N S W) where
 
 -- a token after which nothing is wanted is followed by no tokens
 pub step_done :
-    {N S W : Type 0} (compare : Comparison S) (tok : ProofTok) (old : Standing S W) (starts : Starts N S W) (next : OpenProof N)
+    {N S W : Type 0} (compare : Comparison S) (tok : ProofTok) (old : Standing S W)
+    (starts : Starts N S W) (next : OpenProof N)
     → next.wanted ≡ [] → HasFew tok → IsTaken compare tok old (standing_over starts next) → (tokens : List ProofTok)
     → AreCompleted compare (tok ∷ tokens) old ↔ (tokens ≡ [])
 step_done compare tok old starts next closed few taken tokens =
@@ -165,30 +175,35 @@ step_done compare tok old starts next closed few taken tokens =
 
 -- a token that is refused, not for want of memory, begins nothing
 pub none_begun :
-    {S W : Type 0} (compare : Comparison S) (e : ProofError) (tok : ProofTok) (at : Standing S W) → IsProofCauseOf compare e tok at
+    {S W : Type 0} (compare : Comparison S) (e : ProofError) (tok : ProofTok) (at : Standing S W)
+    → IsProofCauseOf compare e tok at
     → (IsWantOfMemory e → ⊥) → (tokens : List ProofTok) → AreCompleted compare (tok ∷ tokens) at → ⊥
 none_begun compare e tok at (inl want) other tokens whole = other want
-none_begun compare e tok at (inr refused) other tokens whole = CompletesWanted-refused compare tok tokens at.known at.wanted e refused whole
+none_begun compare e tok at (inr refused) other tokens whole =
+    CompletesWanted-refused compare tok tokens at.known at.wanted e refused whole
 
 -- what holds of an asker's starts holds of its plan
 pub root_kept :
-    {N S W : Type 0} (old new : Starts N S W) (was root : Plan W) → IsWhole was old → IsWhole root new → new.root ≡ old.root
+    {N S W : Type 0} (old new : Starts N S W) (was root : Plan W) → IsWhole was old
+    → IsWhole root new → new.root ≡ old.root
     → root ≡ was
 root_kept old new was root before after same = after.same ∙ ap unmarked same ∙ sym before.same
 
 pub plan_holds :
-    {N S W : Type 0} (is_own : N → Type 0) (starts : Starts N S W) (root : Plan W) (p : OpenProof N) → IsProofUnderWay is_own starts p
+    {N S W : Type 0} (is_own : N → Type 0) (starts : Starts N S W) (root : Plan W) (p : OpenProof N)
+    → IsProofUnderWay is_own starts p
     → p.wanted ≡ [] → IsWhole root starts → (v : ℕ → ℤ) → value root v ≡ true
 plan_holds is_own starts root p way closed whole v =
     let done : AreCompleted starts.compare [] (standing_over starts p) =
     subst
-    (λ (w : List (WantedAt _)). CompletesWanted starts.compare [] (map (wanted_of starts.marked) w) (map (learned_of starts.marked) p.known))
-    (sym closed) refl in
+    (λ (w : List (WantedAt _)). CompletesWanted starts.compare [] (map (wanted_of starts.marked) w)
+    (map (learned_of starts.marked) p.known)) (sym closed) refl in
     ap (λ (q : Plan _). value q v) whole.same ∙ way.follows [] done v tt
 
 -- nothing is open
 pub none_open :
-    {N : Type 0} (test : Bool) (wanted : List (WantedAt N)) → test ≡ false → (IsTrue test ↔ (0 < length wanted)) → wanted ≡ []
+    {N : Type 0} (test : Bool) (wanted : List (WantedAt N)) → test ≡ false
+    → (IsTrue test ↔ (0 < length wanted)) → wanted ≡ []
 none_open test [] closed opened = refl
 none_open test (x ∷ wanted) closed opened =
     let one : 0 < length (x ∷ wanted) = omega arith in let e : test ≡ true = opened.1 one in absurd (cc)
@@ -216,7 +231,8 @@ IsProofUnderWay-begun is_own starts root first p law whole begins begun =
 -- a judge that has not refused
 pub under_way :
     {N S W : Type 0} (refusal : Option ProofError) (is_own : N → Type 0) (starts : Starts N S W) (p : OpenProof N)
-    → ((e : ProofError) → refusal ≡ Some e → ⊥) → IsUnderWayUnless refusal is_own starts p → IsProofUnderWay is_own starts p
+    → ((e : ProofError) → refusal ≡ Some e → ⊥) → IsUnderWayUnless refusal is_own starts p
+    → IsProofUnderWay is_own starts p
 under_way None is_own starts p none way = way
 under_way (Some e) is_own starts p none way = absurd (none e refl)
 
@@ -228,9 +244,11 @@ under_way_still (Some e) is_own starts p way = tt
 
 -- a token that is taken leaves what the others complete
 pub step_more :
-    {S W : Type 0} (compare : Comparison S) (tok : ProofTok) (old new : Standing S W) → HasFew tok → IsTaken compare tok old new
+    {S W : Type 0} (compare : Comparison S) (tok : ProofTok) (old new : Standing S W) → HasFew tok
+    → IsTaken compare tok old new
     → (tokens : List ProofTok) → AreCompleted compare (tok ∷ tokens) old ↔ AreCompleted compare tokens new
-step_more compare tok old new few taken tokens = CompletesWanted-step compare tok tokens old.known old.wanted new few taken
+step_more compare tok old new few taken tokens =
+    CompletesWanted-step compare tok tokens old.known old.wanted new few taken
 
 -- a refusal that leaves the places leaves their standing
 pub refusal_stands :
@@ -241,14 +259,17 @@ refusal_stands old new p q kept same =
 
 -- a cycle that is none, at a place that takes a token
 pub cycle_refused :
-    {N S W : Type 0} (starts : Starts N S W) (p : OpenProof N) (picks : List ℕ) (why : PickError) → AreSettledPlaces p.wanted
+    {N S W : Type 0} (starts : Starts N S W) (p : OpenProof N) (picks : List ℕ) (why : PickError)
+    → AreSettledPlaces p.wanted
     → 0 < length p.wanted → pick_verdict (first_list p.wanted) picks ≡ Err why
     → IsRefusedBy starts.compare (error.Tree (end_of_cycle why)) (token.Cycle picks) (standing_over starts p)
 cycle_refused starts p picks why settled some refused = by_first p.wanted settled some refused
   where
     by_first :
-        (wanted : List (WantedAt _)) → AreSettledPlaces wanted → 0 < length wanted → pick_verdict (first_list wanted) picks ≡ Err why
-        → after_proof_token starts.compare (token.Cycle picks) (map (learned_of starts.marked) p.known) (map (wanted_of starts.marked) wanted)
+        (wanted : List (WantedAt _)) → AreSettledPlaces wanted → 0 < length wanted
+        → pick_verdict (first_list wanted) picks ≡ Err why
+        → after_proof_token starts.compare (token.Cycle picks) (map (learned_of starts.marked) p.known)
+        (map (wanted_of starts.marked) wanted)
         ≡ Err (error.Tree (end_of_cycle why))
     by_first [] settled some is = absurd (omega arith)
     by_first (Tree n w ∷ wanted) settled some is = rw is refl
@@ -257,9 +278,11 @@ cycle_refused starts p picks why settled some refused = by_first p.wanted settle
 
 -- the refusal of a cycle, as that of a token
 pub cycle_cause :
-    {N S W : Type 0} (starts : Starts N S W) (p : OpenProof N) (picks : List ℕ) (e : ProofError) → AreSettledPlaces p.wanted
+    {N S W : Type 0} (starts : Starts N S W) (p : OpenProof N) (picks : List ℕ) (e : ProofError)
+    → AreSettledPlaces p.wanted
     → 0 < length p.wanted
-    → IsWantOfMemory e ⊎ ((why : PickError) × (pick_verdict (first_list p.wanted) picks ≡ Err why) × (e ≡ error.Tree (end_of_cycle why)))
+    → IsWantOfMemory e ⊎ ((why : PickError) × (pick_verdict (first_list p.wanted) picks ≡ Err why)
+    × (e ≡ error.Tree (end_of_cycle why)))
     → IsProofCauseOf starts.compare e (token.Cycle picks) (standing_over starts p)
 cycle_cause starts p picks e settled some (inl want) = inl want
 cycle_cause starts p picks e settled some (inr (why, refused, same)) =
@@ -274,18 +297,20 @@ module _ {N S W : Type 0} (is_own : N → Type 0) (starts : Starts N S W) (p q :
       → OnOk r (pick_verdict (first_list p.wanted) picks ≡ Ok tt)
       → OnOk r (IsTaken starts.compare (token.Cycle picks) (standing_over starts p) (standing_over starts q))
   cycle_ok (Ok done) settled some same is =
-      subst (λ (x : OpenProof N). IsTaken starts.compare (token.Cycle picks) (standing_over starts p) (standing_over starts x))
-      (sym same) (cycle_taken starts.marked starts.compare p.known p.wanted picks settled some is)
+      subst (λ (x : OpenProof N). IsTaken starts.compare (token.Cycle picks) (standing_over starts p) (standing_over
+      starts x)) (sym same) (cycle_taken starts.marked starts.compare p.known p.wanted picks settled some is)
   cycle_ok (Err e) settled some same is = tt
 
-  pub cycle_own : (r : Result (Unit {0}) ProofError) → AreOwnPlaces is_own p → OnOk r (q ≡ closed p) → OnOk r (AreOwnPlaces is_own q)
+  pub cycle_own : (r : Result (Unit {0}) ProofError) → AreOwnPlaces is_own p → OnOk r (q ≡ closed p)
+      → OnOk r (AreOwnPlaces is_own q)
   cycle_own (Ok done) own same = subst (λ (x : OpenProof N). AreOwnPlaces is_own x) (sym same) (own_closed is_own p own)
   cycle_own (Err e) own same = tt
 
   pub cycle_why :
       (r : Result (Unit {0}) ProofError) → AreSettledPlaces p.wanted → 0 < length p.wanted
       → IfErr r
-      (λ e. IsWantOfMemory e ⊎ ((why : PickError) × (pick_verdict (first_list p.wanted) picks ≡ Err why) × (e ≡ error.Tree (end_of_cycle why))))
+      (λ e. IsWantOfMemory e ⊎ ((why : PickError) × (pick_verdict (first_list p.wanted) picks ≡ Err why)
+      × (e ≡ error.Tree (end_of_cycle why))))
       → IfErr r (λ e. IsProofCauseOf starts.compare e (token.Cycle picks) (standing_over starts p))
   cycle_why (Ok done) settled some why = tt
   cycle_why (Err e) settled some why = cycle_cause starts p picks e settled some why

@@ -4,7 +4,8 @@ use Rattle.proof_search.specs.Counting.{HasAsked}
 
 -- nothing was asked or told yet
 pub none_asked : {budget asked told : ℕ} → HasAsked budget asked asked told told 0
-none_asked = record { rises = omega arith; counted = (omega arith, λ small. omega arith); spent = λ some. omega (arith, some) }
+none_asked =
+    record { rises = omega arith; counted = (omega arith, λ small. omega arith); spent = λ some. omega (arith, some) }
 
 -- what was asked first, and what was asked then
 pub HasAsked-trans :

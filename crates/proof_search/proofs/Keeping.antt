@@ -3,7 +3,8 @@ use Rattle.std.proofs.Common.{refl, ◌∙◌}
 use Rattle.proof_trees.specs.Starters.{Starts, KeepsStarts}
 
 -- nothing changes of itself
-pub KeepsStarts-refl : {N S W : Type 0} (is_own : N → Type 0) (starts : Starts N S W) → KeepsStarts is_own is_own starts starts
+pub KeepsStarts-refl : {N S W : Type 0} (is_own : N → Type 0) (starts : Starts N S W)
+    → KeepsStarts is_own is_own starts starts
 KeepsStarts-refl is_own starts = record {
   own = λ n. (λ own. own, λ own. own);
   plans = λ n own. refl;

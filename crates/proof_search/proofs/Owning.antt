@@ -1,5 +1,6 @@
 -- The nodes of a search stay the asker's own.
-use Rattle.std.proofs.Common.{◌≡◌, ◌<◌, ℕ, List, [], ◌∷◌, ◌++◌, Option, Some, None, length, get_or, Vec, refl, ap, sym, subst, ◌∙◌, ⊎_elim, inl, inr, arith}
+use Rattle.std.proofs.Common.{◌≡◌, ◌<◌, ℕ, List, [], ◌∷◌, ◌++◌, Option, Some, None, length, get_or, Vec, refl, ap, sym}
+use Rattle.std.proofs.Common.{subst, ◌∙◌, ⊎_elim, inl, inr, arith}
 use Rattle.std.specs.Prelude.{IfSome}
 use Rattle.std.proofs.Math.ListN.{set, length-set}
 use Rattle.std.proofs.lemmas.Bool.{cases_eq}
@@ -9,12 +10,12 @@ use Rattle.std.specs.List.{All}
 use Rattle.std.proofs.lemmas.List.Elements.{All-weaker, All-push, All-pop}
 use Rattle.proof_trees.specs.Starters.{Starts, KeepsStarts}
 use Rattle.proof_search.proofs.Keeping.{KeepsStarts-refl, KeepsStarts-trans}
-use Rattle.lemma_levels.specs.declared.open.LemmaLevel.{LemmaLevel}
-use Rattle.lemma_levels.specs.declared.lemmas.Lemma.{Lemma}
-use Rattle.lemma_levels.specs.declared.open.WaitingPart.{WaitingPart}
-use Rattle.lemma_levels.specs.declared.open.Search.{Search}
-use Rattle.proof_search.specs.Owning.{AreOwnLemmas, IsOwnSearch, KeepsNodes, KeepsPlaces, BeginsLevel, AddsItem, AddsLemma, MayAddItem, HasAskedInSearch, TakesPart}
-use Rattle.proof_search.specs.Owning.{OpensPart, closed_search}
+use Rattle.proof_search.specs.declared.under_way.LemmaLevel.{LemmaLevel}
+use Rattle.proof_search.specs.declared.lemmas.Lemma.{Lemma}
+use Rattle.proof_search.specs.declared.under_way.WaitingPart.{WaitingPart}
+use Rattle.proof_search.specs.declared.under_way.Search.{Search}
+use Rattle.proof_search.specs.Owning.{AreOwnLemmas, IsOwnSearch, KeepsNodes, KeepsPlaces, BeginsLevel, AddsItem}
+use Rattle.proof_search.specs.Owning.{AddsLemma, MayAddItem, HasAskedInSearch, TakesPart, OpensPart, closed_search}
 
 IfSome-weaker : {N : Type 0} (P Q : N → Type 0) → ((n : N) → P n → Q n) → (o : Option N) → IfSome o P → IfSome o Q
 IfSome-weaker P Q weaker None own = tt
@@ -34,7 +35,8 @@ nodes_same xs = record { fewer = omega arith; nodes = λ k d below. refl }
 
 -- what is kept twice is kept
 pub nodes_kept_twice :
-    {X N : Type 0} {node_of : X → N} {first then last : List X} → KeepsNodes node_of first then → KeepsNodes node_of then last
+    {X N : Type 0} {node_of : X → N} {first then last : List X} → KeepsNodes node_of first then
+    → KeepsNodes node_of then last
     → KeepsNodes node_of first last
 nodes_kept_twice {then = then} one two =
     record {
@@ -53,7 +55,8 @@ node_set {X = X} {node_of = node_of} xs place item d within same = record {
       elim (cases_eq k place) [
         | inl here ↦
             rw here
-            (ap node_of (get_or-set_same xs place item e within) ∙ same ∙ ap node_of (get_or_default xs place d e within))
+            (ap node_of (get_or-set_same xs place item e within) ∙ same
+            ∙ ap node_of (get_or_default xs place d e within))
         | inr other ↦ ap node_of (get_or-set_other xs place k item e other)
       ];
 }
@@ -135,12 +138,14 @@ module _ {N : Type 0} (is_own : N → Type 0) (old new : Search N) (own : IsOwnS
   }
 
   -- nor one that has asked a question with two such parts
-  pub own_asked : (on_yes on_no : N) → is_own on_yes → is_own on_no → HasAskedInSearch on_yes on_no old new → IsOwnSearch is_own new
+  pub own_asked : (on_yes on_no : N) → is_own on_yes → is_own on_no
+      → HasAskedInSearch on_yes on_no old new → IsOwnSearch is_own new
   own_asked on_yes on_no own_yes own_no asked = record {
     at =
         ⊎_elim (λ (e : new.at ≡ Some on_yes). subst (λ (o : Option N). IfSome o is_own) (sym e) own_yes)
         (λ (e : new.at ≡ Some on_no). subst (λ (o : Option N). IfSome o is_own) (sym e) own_no) asked.at;
-    waiting = item_added (λ w. w.node) is_own on_no own_no old.waiting.items new.waiting.items asked.waiting own.waiting;
+    waiting =
+        item_added (λ w. w.node) is_own on_no own_no old.waiting.items new.waiting.items asked.waiting own.waiting;
     levels = subst (λ (held : List (LemmaLevel N)). All (λ l. is_own l.node) held) (sym asked.levels) own.levels;
     lemmas = subst (λ (held : List (Lemma N)). AreOwnLemmas is_own held) (sym asked.lemmas) own.lemmas;
   }
@@ -192,14 +197,26 @@ module _ {N : Type 0} (is_own : N → Type 0) (old new : Search N) (own : IsOwnS
 
 -- where the innermost level is closed, its node is own, and so are those of the levels around it and of the lemmas
 -- with its own one
-module _ {N : Type 0} (is_own : N → Type 0) (old new : List (LemmaLevel N)) (level : LemmaLevel N) (all : All (λ l. is_own l.node) old)
+module _ {N : Type 0} (is_own : N → Type 0) (old new : List (LemmaLevel N)) (level : LemmaLevel N)
+    (all : All (λ l. is_own l.node) old)
     (popped : old ≡ new ++ level ∷ []) where
   pub popped_is_own : is_own level.node × All (λ l. is_own l.node) new
   popped_is_own =
       let both = All-pop (λ l. is_own l.node) old new (Some level) popped all in (both.1, both.0)
 
 -- where no place is open, one node fewer is to be own
-pub own_none : {N : Type 0} (is_own : N → Type 0) (s : Search N) → IsOwnSearch is_own s → IsOwnSearch is_own (closed_search s)
+pub own_none : {N : Type 0} (is_own : N → Type 0) (s : Search N) → IsOwnSearch is_own s
+    → IsOwnSearch is_own (closed_search s)
 own_none is_own s own = record { at = tt; waiting = own.waiting; levels = own.levels; lemmas = own.lemmas }
 
-pub ruleset keeping = (KeepsStarts-refl, KeepsStarts-trans, search_kept, own_level, own_asked, own_opened, own_places, own_closed, own_none)
+pub ruleset keeping = (
+  KeepsStarts-refl,
+  KeepsStarts-trans,
+  search_kept,
+  own_level,
+  own_asked,
+  own_opened,
+  own_places,
+  own_closed,
+  own_none,
+)

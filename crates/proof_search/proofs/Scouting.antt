@@ -3,9 +3,9 @@ use Rattle.std.proofs.Common.{◌≡◌, ◌∙◌, List, Option, Some, sym, sub
 use Rattle.std.specs.Prelude.{IfSome}
 use Rattle.std.specs.List.{All}
 use Rattle.std.proofs.lemmas.List.Elements.{All-push}
-use Rattle.lemma_levels.specs.declared.open.LemmaLevel.{LemmaLevel}
-use Rattle.lemma_levels.specs.declared.lemmas.Lemma.{Lemma}
-use Rattle.lemma_levels.specs.declared.open.Search.{Search}
+use Rattle.proof_search.specs.declared.under_way.LemmaLevel.{LemmaLevel}
+use Rattle.proof_search.specs.declared.lemmas.Lemma.{Lemma}
+use Rattle.proof_search.specs.declared.under_way.Search.{Search}
 use Rattle.proof_search.specs.Owning.{AreOwnLemmas, IsOwnSearch, KeepsPlaces, closed_search}
 use Rattle.proof_search.specs.Scouts.{RenewsLevel, MayRenewLevel, IsAtLevel, GoesBack, MayGoBack}
 use Rattle.proof_search.proofs.Owning.{nodes_kept, own_places, own_closed, popped_is_own}
@@ -17,7 +17,8 @@ module _ {N : Type 0} (is_own : N → Type 0) (old new : Search N) (own : IsOwnS
       record {
         at =
             ⊎_elim (λ (e : new.at ≡ old.at). subst (λ (o : Option N). IfSome o is_own) (sym e) own.at)
-            (λ (e : new.at ≡ Some renewed.level.node). subst (λ (o : Option N). IfSome o is_own) (sym e) popped.0) renewed.at;
+            (λ (e : new.at ≡ Some renewed.level.node). subst (λ (o : Option N). IfSome o is_own) (sym e) popped.0)
+            renewed.at;
         waiting = nodes_kept (λ w. w.node) is_own old.waiting.items new.waiting.items renewed.waiting own.waiting;
         levels =
             subst (λ (held : List (LemmaLevel N)). All (λ l. is_own l.node) held) (sym renewed.levels.items)
@@ -36,7 +37,8 @@ module _ {N : Type 0} (is_own : N → Type 0) (old new : Search N) (own : IsOwnS
     at =
         ⊎_elim (λ (e : new.at ≡ old.at). subst (λ (o : Option N). IfSome o is_own) (sym e) own.at)
         (λ (place : IsAtLevel old.levels.items new.at).
-        subst (λ (o : Option N). IfSome o is_own) (sym place.node) (own.levels place.number place.other place.within)) back.at;
+        subst (λ (o : Option N). IfSome o is_own) (sym place.node) (own.levels place.number place.other place.within))
+        back.at;
     waiting = nodes_kept (λ w. w.node) is_own old.waiting.items new.waiting.items back.waiting own.waiting;
     levels = nodes_kept (λ l. l.node) is_own old.levels.items new.levels.items back.levels own.levels;
     lemmas = subst (λ (held : List (Lemma N)). AreOwnLemmas is_own held) (sym back.lemmas) own.lemmas;

@@ -1,3 +1,4 @@
 pub mod Counting
 pub mod Owning
 pub mod Scouts
+pub mod Facts

@@ -2,9 +2,9 @@
 use Rattle.std.specs.Prelude.{◌≡◌, ◌⊎◌, ℕ, ◌+◌, ◌<◌, ◌≤◌, List, [], ◌∷◌, ◌++◌, Some, None, IfSome, slice_get}
 use Rattle.std.specs.Prelude.{slice_index_or, length}
 use Rattle.std.specs.List.{All}
-use Rattle.lemma_levels.specs.declared.lemmas.Lemma.{Lemma}
-use Rattle.lemma_levels.specs.declared.open.WaitingPart.{WaitingPart}
-use Rattle.lemma_levels.specs.declared.open.Search.{Search}
+use Rattle.proof_search.specs.declared.lemmas.Lemma.{Lemma}
+use Rattle.proof_search.specs.declared.under_way.WaitingPart.{WaitingPart}
+use Rattle.proof_search.specs.declared.under_way.Search.{Search}
 use Rattle.proof_trees.specs.Starts.{start_of, conditions_between}
 use Rattle.proof_trees.specs.Starters.{Starts}
 use Rattle.proof_search.specs.declared.blame.Mended.{Mended}
@@ -88,7 +88,8 @@ pub record TakesPart {N : Type 0} (old new : Search N) : Type 0 where
 
 -- a part is taken, or none waits; the rest stays
 pub record OpensPart {N : Type 0} (old new : Search N) : Type 0 where
-  pub taken : ((old.waiting.items ≡ []) × (new.waiting.items ≡ old.waiting.items) × (new.at ≡ old.at)) ⊎ TakesPart old new
+  pub taken : ((old.waiting.items ≡ []) × (new.waiting.items ≡ old.waiting.items) × (new.at ≡ old.at))
+      ⊎ TakesPart old new
   pub levels : new.levels.items ≡ old.levels.items
   pub lemmas : new.lemmas ≡ old.lemmas
   pub asked : new.asked ≡ old.asked

@@ -1,7 +1,7 @@
 -- How scouts change a search.
 use Rattle.std.specs.Prelude.{◌≡◌, ◌⊎◌, ℕ, ◌<◌, List, [], ◌∷◌, ◌++◌, Option, Some, length, slice_index_or}
-use Rattle.lemma_levels.specs.declared.open.LemmaLevel.{LemmaLevel}
-use Rattle.lemma_levels.specs.declared.open.Search.{Search}
+use Rattle.proof_search.specs.declared.under_way.LemmaLevel.{LemmaLevel}
+use Rattle.proof_search.specs.declared.under_way.Search.{Search}
 use Rattle.proof_search.specs.Owning.{AddsItem, KeepsNodes, KeepsPlaces}
 
 -- a level of the node of one is begun, and its start is open
@@ -34,8 +34,8 @@ pub record IsAtLevel {N : Type 0} (levels : List (LemmaLevel N)) (at : Option N)
   pub within : number < length levels
   pub node : at ≡ Some (slice_index_or levels number other).node
 
--- the levels and the parts that wait are those of before, from the outermost one on, and what is open is as before or the
--- start of a level
+-- the levels and the parts that wait are those of before, from the outermost one on,
+-- and what is open is as before or the start of a level
 pub record GoesBack {N : Type 0} (old new : Search N) : Type 0 where
   pub at : (new.at ≡ old.at) ⊎ IsAtLevel old.levels.items new.at
   pub levels : KeepsNodes (λ l. l.node) old.levels.items new.levels.items

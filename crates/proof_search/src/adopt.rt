@@ -3,13 +3,12 @@ ghost use Rattle.std.specs.Prelude.{◌≡◌, ◌<◌, length, IfOk, IfSome, On
 ghost use Rattle.proof_trees.specs.Starters.{KeepsStarts};
 ghost use Rattle.proof_search.specs.Owning.{AreOwnLemmas, KeepsNodes, KeepsPlaces};
 
-use crate::NoMemory;
 use crate::blame::drop_from;
 use crate::finder::Finder;
 use crate::levels::{assume_at, is_still_reached};
 use crate::service::{Any, Known, ServingLemma, serving};
+use crate::{Added, Distances, LemmaLevel, Lemmas, NoMemory, Search};
 use diff_graph::Lit;
-use lemma_levels::{Added, Distances, LemmaLevel, Lemmas, Search};
 use std::alloc::Global;
 
 impl<N: Copy> Known for Search<N> {

@@ -2,10 +2,9 @@
 ghost use Rattle.std.specs.Prelude.{◌<◌, length, IfOk, IfSome, OnOk};
 ghost use Rattle.proof_search.specs.Owning.{KeepsNodes, KeepsPlaces, IsMendedWithin};
 
-use crate::NoMemory;
 use crate::levels::{add_around, assume_at, is_still_reached};
+use crate::{Distances, LemmaLevel, MAX_NAMES, NoMemory, Search};
 use diff_graph::Lit;
-use lemma_levels::{Distances, LemmaLevel, MAX_NAMES, Search};
 
 /// What became of an end that fails.
 #[derive(Clone, Copy)]

@@ -2,9 +2,8 @@
 ghost use Rattle.std.specs.Prelude.{◌<◌, length};
 ghost use Rattle.proof_search.specs.Owning.{KeepsNodes};
 
-use crate::NoMemory;
+use crate::{Distances, LemmaLevel, NoMemory};
 use diff_graph::Lit;
-use lemma_levels::{Distances, LemmaLevel};
 
 /// Makes a literal on the same names as strong as the given one, if there is one.
 fn strengthen(literals: &mut [Lit], lit: Lit) -> bool {

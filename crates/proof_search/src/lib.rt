@@ -13,7 +13,10 @@
 
 mod adopt;
 mod blame;
+mod distances;
+mod facts;
 mod finder;
+mod lemmas;
 mod levels;
 mod open;
 mod scouts;
@@ -21,10 +24,14 @@ mod seeking;
 mod service;
 mod told;
 mod turns;
+mod under_way;
 
-pub use ask_core::NoMemory;
+pub use ask_core::{MAX_NAMES, NoMemory};
+pub use distances::Distances;
+pub use facts::{Added, Facts};
 pub use finder::Finder;
-pub use lemma_levels::{Added, Distances, Facts, Lemma, Lemmas, MAX_NAMES, NEWEST};
+pub use lemmas::{Lemma, Lemmas, NEWEST};
 pub use seeking::{SearchOutcome, SearchResult, search};
 pub use service::{Any, Choice, Known, Pins, ServingLemma, serving, serving_of};
 pub use told::Told;
+pub use under_way::{LemmaLevel, Search, Sent, WaitingPart};

@@ -2,10 +2,9 @@
 ghost use Rattle.std.specs.Prelude.{◌≡◌, ◌+◌, ◌<◌, ◌^◌, OnOk};
 ghost use Rattle.proof_search.specs.Owning.{BeginsLevel, HasAskedInSearch};
 
-use crate::NoMemory;
 use crate::levels::assumed;
+use crate::{Distances, LemmaLevel, NoMemory, Search, Sent, WaitingPart};
 use diff_graph::{Lit, negate};
-use lemma_levels::{Distances, LemmaLevel, Search, Sent, WaitingPart};
 use std::alloc::Global;
 
 /// Adds a literal to the facts that stand last.

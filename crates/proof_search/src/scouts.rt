@@ -9,11 +9,10 @@ ghost use Rattle.std.specs.Prelude.{◌≡◌, ◌<◌, length, IfSome, OnOk};
 ghost use Rattle.proof_search.specs.Owning.{KeepsNodes};
 ghost use Rattle.proof_search.specs.Scouts.{BeginsAnew, MayRenewLevel, GoesBack};
 
-use crate::NoMemory;
 use crate::blame::drop_from;
 use crate::told::Told;
+use crate::{Added, Distances, LemmaLevel, MAX_NAMES, NoMemory, Search, Sent};
 use diff_graph::Lit;
-use lemma_levels::{Added, Distances, LemmaLevel, MAX_NAMES, Search, Sent};
 use std::alloc::Global;
 
 /// How far from one another two positions are where a scout goes, farther than guards and results tell apart.

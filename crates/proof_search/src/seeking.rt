@@ -5,11 +5,10 @@ ghost use Rattle.proof_search.specs.Counting.{HasAsked, unasked, unasked_at};
 ghost use Rattle.proof_search.specs.declared.seeking.SearchOutcome.TheVariants.{Spent};
 ghost use Rattle.proof_search.specs.Owning.{AreOwnLemmas, IsOwnSearch};
 
-use crate::NoMemory;
 use crate::finder::Finder;
 use crate::turns::{SearchEnd, step};
+use crate::{Lemmas, NoMemory, Search};
 use diff_graph::Lit;
-use lemma_levels::{Lemmas, Search};
 use std::alloc::Global;
 
 /// What a search came to.

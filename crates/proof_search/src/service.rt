@@ -4,10 +4,9 @@ ghost use Rattle.proof_trees.specs.Starts.{start_of, conditions_between};
 ghost use Rattle.proof_trees.specs.Starters.{KeepsStarts};
 ghost use Rattle.proof_search.specs.Owning.{AreOwnLemmas, ServesNode};
 
-use crate::NoMemory;
 use crate::finder::Finder;
+use crate::{Distances, Facts, Lemmas, NoMemory};
 use diff_graph::Lit;
-use lemma_levels::{Distances, Facts, Lemmas};
 use plain_list::List;
 use proof_trees::MAX_LITERALS;
 use std::alloc::Global;

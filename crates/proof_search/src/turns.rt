@@ -5,7 +5,6 @@ ghost use Rattle.proof_search.specs.Counting.{HasAsked, unasked_after};
 ghost use Rattle.proof_search.specs.Owning.{AddsLemma, AreOwnLemmas, IsOwnSearch, KeepsPlaces, OpensPart, closed_search};
 ghost use Rattle.proof_search.specs.Scouts.{GoesBack, MayGoBack, MayRenewLevel};
 
-use crate::NoMemory;
 use crate::adopt::adopt;
 use crate::blame::{Blamed, blame};
 use crate::finder::Finder;
@@ -13,9 +12,9 @@ use crate::levels::waiting_before;
 use crate::open::{answer, ask_at};
 use crate::scouts::{give_up, scout};
 use crate::service::{Any, serving};
+use crate::{Distances, Lemma, LemmaLevel, NoMemory, Search, Sent};
 use ask_core::Turn;
 use diff_graph::Lit;
-use lemma_levels::{Distances, Lemma, LemmaLevel, Search, Sent};
 use plain_list::List;
 use proof_trees::MAX_LITERALS;
 use std::alloc::Global;

@@ -1,6 +1,6 @@
 -- Bytes that are a proof are accepted.
-use Rattle.std.proofs.Common.{◌≡◌, ℕ, ◌<◌, List, [], ◌∷◌, ◌++◌, length, Result, Ok, Err, Option, Some, None, Bool, true, false, arith, refl, sym, ap, ◌∙◌}
-use Rattle.std.proofs.Common.{subst, append_assoc, length-append, nat_lt}
+use Rattle.std.proofs.Common.{◌≡◌, ℕ, ◌<◌, List, [], ◌∷◌, ◌++◌, length, Result, Ok, Err, Option, Some, None, Bool, true}
+use Rattle.std.proofs.Common.{false, arith, refl, sym, ap, ◌∙◌, subst, append_assoc, length-append, nat_lt}
 use Rattle.std.specs.Prelude.{if◌then◌else◌, slice_get}
 use Rattle.std.proofs.lemmas.List.{append-nil}
 use Rattle.diff_graph.specs.declared.lit.Lit.{Lit}
@@ -16,18 +16,17 @@ use Rattle.proof_trees.specs.Starts.{MarkedPlan, Ask, Holds, Fails, start_of, co
 use Rattle.proof_trees.specs.Proofs.{ProofTree, Question, End, Impossible, Lemma, Citation, Learned, with_lemma, Shows}
 use Rattle.proof_trees.specs.Tokens.{Wanted, Tree, Cycle, Learn, CompletesWanted, proof_tokens_of, wanted_cycles}
 use Rattle.proof_check.specs.declared.verdict.ProofError.{ProofError}
-use Rattle.proof_check.specs.Steps.{Standing, settled, after_proof_token, after_at_tree, after_at_cycle, after_citation, after_comparison, after_cycle}
-use Rattle.proof_check.specs.Steps.{after_end}
-use Rattle.proof_check.specs.Steps.{after_lemma, after_proof_question, IsTaken}
+use Rattle.proof_check.specs.Steps.{Standing, settled, after_proof_token, after_at_tree, after_at_cycle, after_citation}
+use Rattle.proof_check.specs.Steps.{after_comparison, after_cycle, after_end, after_lemma, after_proof_question}
+use Rattle.proof_check.specs.Steps.{IsTaken}
 use Rattle.proof_text.specs.Exact.{FindsExactly}
 use Rattle.proof_text.specs.Fronts.{Parsed, Found}
 use Rattle.proof_text.specs.Lines.{header_front, ob_front, line_end_front, end_front}
 use Rattle.proof_text.specs.Spelling.{IsSpellableInProof, proof_header_text, newline_text, proof_token_text}
 use Rattle.proof_text.specs.Tokens.{token_front}
 use Rattle.proof_sections.specs.declared.refusal.ConfirmError.{ConfirmError}
-use Rattle.proof_sections.specs.Judgement.{after_part, and_then_judged, end_judged, line_judged, nothing_after, opened_tree, proof_judged, section_judged}
-use Rattle.proof_sections.specs.Judgement.{sections_judged}
-use Rattle.proof_sections.specs.Judgement.{tree_judged}
+use Rattle.proof_sections.specs.Judgement.{after_part, and_then_judged, end_judged, line_judged, nothing_after}
+use Rattle.proof_sections.specs.Judgement.{opened_tree, proof_judged, section_judged, sections_judged, tree_judged}
 use Rattle.proof_sections.specs.Spelled.{AreShown, AreSpellableInProof, IsProof, proof_sections_text, proof_tokens_text}
 use Rattle.proof_sections.proofs.Holding.{AreTakenOneByOne, few_of}
 use Rattle.proof_sections.proofs.Trees.{AreFound, tree_judged-done, tree_judged-on}
@@ -35,8 +34,10 @@ use Rattle.proof_sections.proofs.Trees.{AreFound, tree_judged-done, tree_judged-
 -- a token that is refused begins no tokens that complete what is wanted
 abbrev pub RefusedBeginNothing : (S W : Type 0) → Type 0
 RefusedBeginNothing S W =
-    (compare : Comparison S) (tok : ProofTok) (tokens : List ProofTok) (known : List (Learned S W)) (wanted : List (Wanted S W))
-    (why : ProofError) → after_proof_token compare tok known wanted ≡ Err why → CompletesWanted compare (tok ∷ tokens) wanted known → ⊥
+    (compare : Comparison S) (tok : ProofTok) (tokens : List ProofTok) (known : List (Learned S W))
+    (wanted : List (Wanted S W))
+    (why : ProofError) → after_proof_token compare tok known wanted ≡ Err why
+    → CompletesWanted compare (tok ∷ tokens) wanted known → ⊥
 
 -- the lines of a proof are found where they stand
 pub record LinesAreFound : Type 0 where
@@ -80,7 +81,8 @@ module _ {S W : Type 0} where
   question-takes known (Fails start why) w wanted = tt
 
   end-takes :
-      (known : List (Learned S W)) (p : MarkedPlan S W) (wanted : List (Wanted S W)) → TakesNext (after_end known p wanted)
+      (known : List (Learned S W)) (p : MarkedPlan S W) (wanted : List (Wanted S W))
+      → TakesNext (after_end known p wanted)
   end-takes known (Ask start l on_yes on_no) wanted = tt
   end-takes known (Holds start) wanted = settled-takes known wanted
   end-takes known (Fails start why) wanted = tt
@@ -91,12 +93,14 @@ module _ {S W : Type 0} where
   cycle-takes (Ok done) known wanted = settled-takes known wanted
   cycle-takes (Err why) known wanted = tt
 
-  either-takes : (few : Bool) (next : Standing S W) (why : ProofError) → TakesToken next.wanted → TakesNext (if few then Ok next else Err why)
+  either-takes : (few : Bool) (next : Standing S W) (why : ProofError) → TakesToken next.wanted
+      → TakesNext (if few then Ok next else Err why)
   either-takes true next why takes = takes
   either-takes false next why takes = tt
 
   lemma-takes :
-      (start : Option S) (known : List (Learned S W)) (ls : List Lit) (p : MarkedPlan S W) (w : List Lit) (wanted : List (Wanted S W))
+      (start : Option S) (known : List (Learned S W)) (ls : List Lit) (p : MarkedPlan S W) (w : List Lit)
+      (wanted : List (Wanted S W))
       → TakesNext (after_lemma start known ls p w wanted)
   lemma-takes None known ls p w wanted = tt
   lemma-takes (Some s) known ls p w wanted = either-takes (nat_lt (length known) MAX_LEMMAS) _ _ tt
@@ -109,7 +113,8 @@ module _ {S W : Type 0} where
 
   module _ (compare : Comparison S) where
     citation-takes :
-        (start : Option S) (found : Option (Learned S W)) (known : List (Learned S W)) (w : List Lit) (wanted : List (Wanted S W))
+        (start : Option S) (found : Option (Learned S W)) (known : List (Learned S W)) (w : List Lit)
+        (wanted : List (Wanted S W))
         → TakesNext (after_citation compare start found known w wanted)
     citation-takes None found known w wanted = tt
     citation-takes (Some here) None known w wanted = tt
@@ -123,7 +128,8 @@ module _ {S W : Type 0} where
     at_tree-takes token.Holds known p w wanted = end-takes known p wanted
     at_tree-takes (token.Cycle picks) known p w wanted = cycle-takes (pick_verdict w picks) known wanted
     at_tree-takes (token.Lemma ls) known p w wanted = lemma-takes (start_of p) known ls p w wanted
-    at_tree-takes (token.Cite number) known p w wanted = citation-takes (start_of p) (slice_get known number) known w wanted
+    at_tree-takes (token.Cite number) known p w wanted =
+        citation-takes (start_of p) (slice_get known number) known w wanted
 
     at_cycle-takes :
         (tok : ProofTok) (known : List (Learned S W)) (w : List Lit) (wanted : List (Wanted S W))
@@ -134,7 +140,8 @@ module _ {S W : Type 0} where
     at_cycle-takes (token.Lemma ls) known w wanted = tt
     at_cycle-takes (token.Cite number) known w wanted = tt
 
-    after-takes : (tok : ProofTok) (known : List (Learned S W)) (wanted : List (Wanted S W)) → TakesNext (after_proof_token compare tok known wanted)
+    after-takes : (tok : ProofTok) (known : List (Learned S W)) (wanted : List (Wanted S W))
+        → TakesNext (after_proof_token compare tok known wanted)
     after-takes tok known [] = tt
     after-takes tok known (Tree p w ∷ wanted) = at_tree-takes tok known p w wanted
     after-takes tok known (Cycle w ∷ wanted) = at_cycle-takes tok known w wanted
@@ -146,13 +153,19 @@ module _ {S W : Type 0} where
         → CompletesWanted compare [] wanted known → ⊥
     not_none [] known takes some completes = omega arith
     not_none (Tree p w ∷ wanted) known takes some (t, rest, shows, same, later) =
-        omega (arith, proof_tokens_of-some t, ap (λ (x : List ProofTok). length x) same, length-append (proof_tokens_of t) rest)
+        omega (
+          arith,
+          proof_tokens_of-some t,
+          ap (λ (x : List ProofTok). length x) same,
+          length-append (proof_tokens_of t) rest,
+        )
     not_none (Cycle w ∷ wanted) known takes some (picks, rest, is, same, later) = cc
     not_none (Learn p ls ∷ wanted) known takes some completes = takes
 
 module _ {S W : Type 0} (exact : AreFound) (one_by_one : AreTakenOneByOne S W) (refused : RefusedBeginNothing S W)
     (compare : Comparison S) (total : ℕ) where
-  module _ (tok : ProofTok) (tokens : List ProofTok) (at : Standing S W) (rest : List ℕ) (spelled : IsSpellableInProof tok)
+  module _ (tok : ProofTok) (tokens : List ProofTok) (at : Standing S W) (rest : List ℕ)
+      (spelled : IsSpellableInProof tok)
       (completes : CompletesWanted compare (tok ∷ tokens) at.wanted at.known)
       (later : (next : Standing S W) → TakesToken next.wanted → 0 < length next.wanted
       → CompletesWanted compare tokens next.wanted next.known
@@ -169,15 +182,17 @@ module _ {S W : Type 0} (exact : AreFound) (one_by_one : AreTakenOneByOne S W) (
     by_wanted next [] none taken =
         let left : CompletesWanted compare tokens next.wanted next.known =
         (one_by_one compare tok tokens at.known at.wanted next (few_of tok spelled) taken).0 completes in
-        let no_more : tokens ≡ [] = subst (λ (x : List (Wanted S W)). CompletesWanted compare tokens x next.known) none left in
-        tree_judged-done compare total exact at next (proof_tokens_text (tok ∷ tokens) ++ rest) (proof_tokens_text tokens ++ rest) tok first_found
-        taken none
+        let no_more : tokens ≡ [] =
+        subst (λ (x : List (Wanted S W)). CompletesWanted compare tokens x next.known) none left in
+        tree_judged-done compare total exact at next (proof_tokens_text (tok ∷ tokens) ++ rest)
+        (proof_tokens_text tokens ++ rest) tok first_found taken none
         ∙ ap (λ (x : List ProofTok). Ok (proof_tokens_text x ++ rest)) no_more
     by_wanted next (x ∷ w) more taken =
         let some : 0 < length next.wanted = omega (arith, ap (λ (y : List (Wanted S W)). length y) more) in
-        tree_judged-on compare total exact at next (proof_tokens_text (tok ∷ tokens) ++ rest) (proof_tokens_text tokens ++ rest) tok first_found
-        taken some
-        ∙ later next (subst (λ (y : Result (Standing S W) ProofError). TakesNext y) taken (after-takes compare tok at.known at.wanted)) some
+        tree_judged-on compare total exact at next (proof_tokens_text (tok ∷ tokens) ++ rest)
+        (proof_tokens_text tokens ++ rest) tok first_found taken some
+        ∙ later next (subst (λ (y : Result (Standing S W) ProofError). TakesNext y) taken
+        (after-takes compare tok at.known at.wanted)) some
         ((one_by_one compare tok tokens at.known at.wanted next (few_of tok spelled) taken).0 completes)
 
     by_taken :
@@ -199,10 +214,12 @@ module _ {S W : Type 0} (exact : AreFound) (one_by_one : AreTakenOneByOne S W) (
 
   -- so is a tree that shows its plan
   tree_accepted :
-      (t : ProofTree) (p : MarkedPlan S W) (rest : List ℕ) → Shows compare t p [] [] → AreSpellableInProof (proof_tokens_of t)
+      (t : ProofTree) (p : MarkedPlan S W) (rest : List ℕ) → Shows compare t p [] []
+      → AreSpellableInProof (proof_tokens_of t)
       → tree_judged compare total (opened_tree p) (proof_tokens_text (proof_tokens_of t) ++ rest) ≡ Ok rest
   tree_accepted t p rest shows spelled =
-      tokens_accepted (proof_tokens_of t) (opened_tree p) rest spelled tt (omega arith) (t, [], shows, sym (append-nil (proof_tokens_of t)), refl)
+      tokens_accepted (proof_tokens_of t) (opened_tree p) rest spelled tt (omega arith)
+      (t, [], shows, sym (append-nil (proof_tokens_of t)), refl)
 
   line_accepted :
       (front : List ℕ → Parsed (Unit {0})) (text rest : List ℕ) → FindsExactly front (λ x. text) (λ x. Unit {0})
@@ -214,14 +231,18 @@ module _ {S W : Type 0} (exact : AreFound) (one_by_one : AreTakenOneByOne S W) (
   module _ (lines : LinesAreFound) where
     -- a section whose tree shows its plan is accepted
     section_accepted :
-        (t : ProofTree) (p : MarkedPlan S W) (name : ObName) (rest : List ℕ) → Shows compare t p [] [] → AreSpellableInProof (proof_tokens_of t)
-        → section_judged compare p name total (ob_text name ++ (proof_tokens_text (proof_tokens_of t) ++ (newline_text ++ rest))) ≡ Ok rest
+        (t : ProofTree) (p : MarkedPlan S W) (name : ObName) (rest : List ℕ) → Shows compare t p [] []
+        → AreSpellableInProof (proof_tokens_of t)
+        → section_judged compare p name total
+        (ob_text name ++ (proof_tokens_text (proof_tokens_of t) ++ (newline_text ++ rest))) ≡ Ok rest
     unfolding section_judged
     section_accepted t p name rest shows spelled =
         ap
         (λ (x : Result (List ℕ) ConfirmError).
-        and_then_judged x (λ more. and_then_judged (tree_judged compare total (opened_tree p) more) (line_judged total line_end_front)))
-        (line_accepted (ob_front name) (ob_text name) (proof_tokens_text (proof_tokens_of t) ++ (newline_text ++ rest)) (lines.obs name))
+        and_then_judged x (λ more. and_then_judged (tree_judged compare total (opened_tree p) more)
+        (line_judged total line_end_front)))
+        (line_accepted (ob_front name) (ob_text name)
+        (proof_tokens_text (proof_tokens_of t) ++ (newline_text ++ rest)) (lines.obs name))
         ∙ ap (λ (x : Result (List ℕ) ConfirmError). and_then_judged x (line_judged total line_end_front))
         (tree_accepted t p (newline_text ++ rest) shows spelled)
         ∙ line_accepted line_end_front newline_text rest lines.line_ends
@@ -239,8 +260,10 @@ module _ {S W : Type 0} (exact : AreFound) (one_by_one : AreTakenOneByOne S W) (
     sections_accepted plan [] (t ∷ trees) rest shown = absurd shown
     sections_accepted plan (name ∷ names) [] rest shown = absurd shown
     sections_accepted plan (name ∷ names) (t ∷ trees) rest shown =
-        ap (λ (x : List ℕ). and_then_judged (section_judged compare (plan name) name total x) (sections_judged compare plan names total))
-        (regroup (ob_text name) (proof_tokens_text (proof_tokens_of t)) newline_text (proof_sections_text names trees) rest)
+        ap (λ (x : List ℕ). and_then_judged (section_judged compare (plan name) name total x)
+        (sections_judged compare plan names total))
+        (regroup (ob_text name) (proof_tokens_text (proof_tokens_of t)) newline_text
+        (proof_sections_text names trees) rest)
         ∙ ap (λ (x : Result (List ℕ) ConfirmError). and_then_judged x (sections_judged compare plan names total))
         (section_accepted t (plan name) name (proof_sections_text names trees ++ rest) shown.0 shown.1)
         ∙ sections_accepted plan names trees rest shown.2
@@ -248,13 +271,15 @@ module _ {S W : Type 0} (exact : AreFound) (one_by_one : AreTakenOneByOne S W) (
     end_accepted : end_judged total end_text ≡ Ok tt
     unfolding end_judged
     end_accepted =
-        ap (λ (x : List ℕ). and_then_judged (line_judged total end_front x) (nothing_after total)) (sym (append-nil end_text))
+        ap (λ (x : List ℕ). and_then_judged (line_judged total end_front x) (nothing_after total))
+        (sym (append-nil end_text))
         ∙ ap (λ (x : Result (List ℕ) ConfirmError). and_then_judged x (nothing_after total))
         (line_accepted end_front end_text [] lines.ends)
 
 -- bytes that are a proof are accepted
 pub proof_accepted :
-    {S W : Type 0} → AreFound → AreTakenOneByOne S W → RefusedBeginNothing S W → LinesAreFound → (compare : Comparison S)
+    {S W : Type 0} → AreFound → AreTakenOneByOne S W → RefusedBeginNothing S W → LinesAreFound
+    → (compare : Comparison S)
     (plan : ObName → MarkedPlan S W) (names : Level → List ObName) (bytes : List ℕ) (level : Level)
     → IsProof compare plan names bytes level → proof_judged compare plan names bytes ≡ Ok level
 unfolding proof_judged

@@ -13,7 +13,8 @@ use Rattle.proof_text.specs.Fronts.{items_front}
 use Rattle.proof_text.specs.Spelling.{proof_header_text}
 use Rattle.proof_sections.specs.declared.refusal.ProofRefusal.TheVariants as why
 use Rattle.proof_sections.specs.declared.refusal.ConfirmError.TheVariants as confirm
-use Rattle.proof_sections.specs.Judgement.{end_judged, proof_judged, section_judged, sections_judged, tree_by, tree_judged}
+use Rattle.proof_sections.specs.Judgement.{end_judged, proof_judged, section_judged, sections_judged, tree_by}
+use Rattle.proof_sections.specs.Judgement.{tree_judged}
 use Rattle.proof_sections.specs.Spelled.{IsProof, proof_text}
 
 -- the start compares with itself under no condition
@@ -32,13 +33,18 @@ cited = Lemma [] End (Citation 0 []) ∷ End ∷ []
 
 cited_is_proof : IsProof one_start held two (proof_text (two Tp1) Tp1 cited) Tp1
 unfolding one_start held two cited
-cited_is_proof =
-    (cited, (((omega arith, omega arith), tt, tt), ((omega arith, tt), (tt, (omega arith, tt))), (tt, (tt, tt), tt)), refl)
+cited_is_proof = (
+  cited,
+  (((omega arith, omega arith), tt, tt), ((omega arith, tt), (tt, (omega arith, tt))), (tt, (tt, tt), tt)),
+  refl,
+)
 
 -- the next obligation cites the lemma of the one before
 later_text : List ℕ
-later_text = proof_header_text Tp1 ++ (ob_text (Pair Ins Ins) ++ (codes "l;.c0;" ++ 10 ∷ (ob_text (Pair Ins Del) ++ (codes "c0;" ++ 10 ∷ end_text))))
+later_text = proof_header_text Tp1
+    ++ (ob_text (Pair Ins Ins) ++ (codes "l;.c0;" ++ 10 ∷ (ob_text (Pair Ins Del) ++ (codes "c0;" ++ 10 ∷ end_text))))
 
 later_is_refused : proof_judged one_start held two later_text ≡ Err (confirm.Refused 43 why.UnknownLemma)
-unfolding one_start held two later_text proof_judged sections_judged section_judged tree_judged tree_by end_judged items_front
+unfolding one_start held two later_text proof_judged sections_judged section_judged tree_judged
+    tree_by end_judged items_front
 later_is_refused = refl

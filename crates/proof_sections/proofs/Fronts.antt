@@ -1,6 +1,6 @@
 -- Tokens that are taken where they are read.
-use Rattle.std.proofs.Common.{◌≡◌, ◌↔◌, ℕ, suc, ◌+◌, ◌-◌, ◌<◌, ◌≤◌, List, [], ◌∷◌, ◌++◌, length, take, drop, Result, Ok, arith, refl, sym, ap}
-use Rattle.std.proofs.Common.{subst, length-drop, ◌∙◌}
+use Rattle.std.proofs.Common.{◌≡◌, ◌↔◌, ℕ, suc, ◌+◌, ◌-◌, ◌<◌, ◌≤◌, List, [], ◌∷◌, ◌++◌, length, take, drop, Result, Ok}
+use Rattle.std.proofs.Common.{arith, refl, sym, ap, subst, length-drop, ◌∙◌}
 use Rattle.std.proofs.lemmas.List.{drop-drop, length-map, take-append-drop}
 use Rattle.diff_graph.specs.declared.lit.Lit.{Lit}
 use Rattle.ask_core.specs.declared.tree.Tok.{Tok}
@@ -8,8 +8,8 @@ use Rattle.ask_core.specs.declared.tree.Tok.TheVariants as cert
 use Rattle.cert_check.specs.declared.verdict.Progress.{Progress}
 use Rattle.cert_check.specs.declared.verdict.Progress.TheVariants.{More, Done}
 use Rattle.cert_text.specs.Spelling.{token_text, IsSpellable}
-use Rattle.text_cycles.specs.Cycles.{IsCycleFront}
-use Rattle.text_cycles.proofs.Numbers.{bytes_from}
+use Rattle.ot_sections.specs.Cycles.{IsCycleFront}
+use Rattle.ot_sections.proofs.Numbers.{bytes_from}
 use Rattle.proof_trees.specs.declared.token.ProofTok.{ProofTok}
 use Rattle.proof_trees.specs.declared.token.ProofTok.TheVariants as token
 use Rattle.proof_trees.specs.Proofs.{Learned}
@@ -41,14 +41,16 @@ drop_behind_two b c bytes len = let e : len + 2 ≡ suc (suc len) = omega arith 
 
 -- something is wanted where a token is taken
 some_wanted :
-    {S W : Type 0} (compare : Comparison S) (tok : ProofTok) (known : List (Learned S W)) (wanted : List (Wanted S W)) (new : Standing S W)
+    {S W : Type 0} (compare : Comparison S) (tok : ProofTok) (known : List (Learned S W))
+    (wanted : List (Wanted S W)) (new : Standing S W)
     → after_proof_token compare tok known wanted ≡ Ok new → 0 < length wanted
 some_wanted compare tok known [] new taken = absurd (cc)
 some_wanted compare tok known (x ∷ wanted) new taken = omega arith
 
 -- the same places of the same asker stand for the same
 pub standing_same :
-    {A N S W : Type 0} (starts : A → Starts N S W) (old new : ProofJudging A N) → new.places ≡ old.places → new.asker ≡ old.asker
+    {A N S W : Type 0} (starts : A → Starts N S W) (old new : ProofJudging A N)
+    → new.places ≡ old.places → new.asker ≡ old.asker
     → standing_at starts new ≡ standing_at starts old
 standing_same starts old new places asker = rw (places, asker) refl
 
@@ -64,9 +66,11 @@ module _ (exact : AreFound) where
       let spelled : 120 ∷ bytes ≡ proof_token_text (token.Cycle picks) ++ drop len bytes =
       ap (λ (l : List ℕ). 120 ∷ l) (sym (take-append-drop len bytes))
       ∙ ap (λ (l : List ℕ). l ++ drop len bytes) (sym (alike.text (cert.Cycle picks) ∙ text)) in
-      (exact.found (token.Cycle picks) (120 ∷ bytes) (drop len bytes)).1 ((alike.spellable (cert.Cycle picks)).1 fine, spelled)
+      (exact.found (token.Cycle picks) (120 ∷ bytes) (drop len bytes)).1
+      ((alike.spellable (cert.Cycle picks)).1 fine, spelled)
 
-  module _ {N S W : Type 0} (compare : Comparison S) (old : Standing S W) (starts : Starts N S W) (q : OpenProof N) where
+  module _ {N S W : Type 0} (compare : Comparison S) (old : Standing S W)
+      (starts : Starts N S W) (q : OpenProof N) where
     -- a question leads behind it
     pub question_leads :
         (rest : List ℕ) → IsTaken compare token.Ask old (standing_over starts q) → 0 < length q.wanted
@@ -75,7 +79,8 @@ module _ (exact : AreFound) where
       omega arith,
       omega arith,
       λ total.
-          front_leads exact compare total More token.Ask (63 ∷ rest) rest old starts q (question_found rest) taken (λ e. some) (λ e. absurd (cc)),
+          front_leads exact compare total More token.Ask (63 ∷ rest) rest old starts q (question_found rest) taken
+          (λ e. some) (λ e. absurd (cc)),
     )
 
     -- a cycle does, or to the end
@@ -103,10 +108,11 @@ module _ (exact : AreFound) where
       omega (arith, front.0),
       λ total.
           rw (drop_behind_two 63 120 bytes len)
-          (tree_judged-on compare total exact old next (63 ∷ 120 ∷ bytes) (120 ∷ bytes) token.Ask (question_found (120 ∷ bytes)) asked
+          (tree_judged-on compare total exact old next (63 ∷ 120 ∷ bytes) (120 ∷ bytes) token.Ask
+          (question_found (120 ∷ bytes)) asked
           (some_wanted compare (token.Cycle front.1.0) next.known next.wanted (standing_over starts q) closed)
-          ∙ tree_judged-on compare total exact next (standing_over starts q) (120 ∷ bytes) (drop len bytes) (token.Cycle front.1.0)
-          (cycle_found alike lits bytes len front) closed (rw length-map some)),
+          ∙ tree_judged-on compare total exact next (standing_over starts q) (120 ∷ bytes) (drop len bytes)
+          (token.Cycle front.1.0) (cycle_found alike lits bytes len front) closed (rw length-map some)),
     )
 
 -- what is judged of the whole leads on where tokens at a place do

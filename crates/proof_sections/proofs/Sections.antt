@@ -1,5 +1,6 @@
 -- A section, all sections and a whole proof, by what is judged of their parts.
-use Rattle.std.proofs.Common.{◌≡◌, ◌⊎◌, inl, inr, ℕ, ◌-◌, ◌<◌, ◌≤◌, List, [], ◌∷◌, length, drop, Result, Ok, Err, arith, refl, sym, ap, ◌∙◌, length-drop}
+use Rattle.std.proofs.Common.{◌≡◌, ◌⊎◌, inl, inr, ℕ, ◌-◌, ◌<◌, ◌≤◌, List, [], ◌∷◌, length, drop, Result, Ok, Err, arith}
+use Rattle.std.proofs.Common.{refl, sym, ap, ◌∙◌, length-drop}
 use Rattle.fn_rules.specs.declared.function.Level.{Level}
 use Rattle.fn_rules.specs.declared.function.ObName.{ObName}
 use Rattle.proof_trees.specs.Starts.{MarkedPlan, Comparison}
@@ -9,8 +10,8 @@ use Rattle.proof_text.specs.Lines.{header_front, ob_front, line_end_front, end_f
 use Rattle.proof_sections.specs.declared.refusal.ProofRefusal.TheVariants as why
 use Rattle.proof_sections.specs.declared.refusal.ConfirmError.{ConfirmError}
 use Rattle.proof_sections.specs.declared.refusal.ConfirmError.TheVariants as confirm
-use Rattle.proof_sections.specs.Judgement.{Judges, and_then_judged, end_judged, line_judged, nothing_after, opened_tree, proof_judged, section_judged}
-use Rattle.proof_sections.specs.Judgement.{sections_judged, tree_judged, unread_at}
+use Rattle.proof_sections.specs.Judgement.{Judges, and_then_judged, end_judged, line_judged, nothing_after, opened_tree}
+use Rattle.proof_sections.specs.Judgement.{proof_judged, section_judged, sections_judged, tree_judged, unread_at}
 use Rattle.proof_sections.proofs.Trees.{judges_not, judges_then}
 
 module _ {S W : Type 0} (compare : Comparison S) (p : MarkedPlan S W) (name : ObName) (bytes : List ℕ) (at : ℕ) where
@@ -20,19 +21,22 @@ module _ {S W : Type 0} (compare : Comparison S) (p : MarkedPlan S W) (name : Ob
   unfolding section_judged
   section_no_line e is =
       judges_not bytes (line_judged (length bytes) (ob_front name) (drop at bytes))
-      (λ rest. and_then_judged (tree_judged compare (length bytes) (opened_tree p) rest) (line_judged (length bytes) line_end_front)) e is
+      (λ rest. and_then_judged (tree_judged compare (length bytes) (opened_tree p) rest)
+      (line_judged (length bytes) line_end_front)) e is
 
-  module _ (start : ℕ) (line : Judges bytes (line_judged (length bytes) (ob_front name) (drop at bytes)) (Ok start)) where
+  module _ (start : ℕ)
+      (line : Judges bytes (line_judged (length bytes) (ob_front name) (drop at bytes)) (Ok start)) where
     pub section_no_tree :
-        (e : ConfirmError) → Judges bytes (tree_judged compare (length bytes) (opened_tree p) (drop start bytes)) (Err e)
+        (e : ConfirmError)
+        → Judges bytes (tree_judged compare (length bytes) (opened_tree p) (drop start bytes)) (Err e)
         → Judges bytes (section_judged compare p name (length bytes) (drop at bytes)) (Err e)
     unfolding section_judged
     section_no_tree e is =
         judges_then bytes (line_judged (length bytes) (ob_front name) (drop at bytes))
-        (λ rest. and_then_judged (tree_judged compare (length bytes) (opened_tree p) rest) (line_judged (length bytes) line_end_front)) start (Err e)
-        line
-        (judges_not bytes (tree_judged compare (length bytes) (opened_tree p) (drop start bytes)) (line_judged (length bytes) line_end_front)
-        e is)
+        (λ rest. and_then_judged (tree_judged compare (length bytes) (opened_tree p) rest)
+        (line_judged (length bytes) line_end_front)) start (Err e) line
+        (judges_not bytes (tree_judged compare (length bytes) (opened_tree p) (drop start bytes))
+        (line_judged (length bytes) line_end_front) e is)
 
     -- a section whose line and tree are accepted is judged as what ends its line is
     pub section_whole :
@@ -43,19 +47,21 @@ module _ {S W : Type 0} (compare : Comparison S) (p : MarkedPlan S W) (name : Ob
     unfolding section_judged
     section_whole behind result tree is =
         judges_then bytes (line_judged (length bytes) (ob_front name) (drop at bytes))
-        (λ rest. and_then_judged (tree_judged compare (length bytes) (opened_tree p) rest) (line_judged (length bytes) line_end_front)) start result
-        line
+        (λ rest. and_then_judged (tree_judged compare (length bytes) (opened_tree p) rest)
+        (line_judged (length bytes) line_end_front)) start result line
         (judges_then bytes (tree_judged compare (length bytes) (opened_tree p) (drop start bytes))
         (line_judged (length bytes) line_end_front) behind result tree is)
 
 module _ {S W : Type 0} (compare : Comparison S) (plan : ObName → MarkedPlan S W) (bytes : List ℕ) (at : ℕ) where
-  pub sections_none : at ≤ length bytes → Judges bytes (sections_judged compare plan [] (length bytes) (drop at bytes)) (Ok at)
+  pub sections_none : at ≤ length bytes
+      → Judges bytes (sections_judged compare plan [] (length bytes) (drop at bytes)) (Ok at)
   unfolding sections_judged
   sections_none within = (within, refl)
 
   module _ (name : ObName) (names : List ObName) where
     pub sections_not :
-        (e : ConfirmError) → Judges bytes (section_judged compare (plan name) name (length bytes) (drop at bytes)) (Err e)
+        (e : ConfirmError)
+        → Judges bytes (section_judged compare (plan name) name (length bytes) (drop at bytes)) (Err e)
         → Judges bytes (sections_judged compare plan (name ∷ names) (length bytes) (drop at bytes)) (Err e)
     unfolding sections_judged
     sections_not e is =
@@ -76,7 +82,8 @@ module _ {S W : Type 0} (compare : Comparison S) (plan : ObName → MarkedPlan S
 abbrev pub AnswersJudged : Result Level ConfirmError → Result Level ConfirmError → Type 0
 AnswersJudged judged answer = (answer ≡ Err confirm.NoMemory) ⊎ (answer ≡ judged)
 
-module _ {S W : Type 0} (compare : Comparison S) (plan : ObName → MarkedPlan S W) (names : Level → List ObName) (bytes : List ℕ) where
+module _ {S W : Type 0} (compare : Comparison S) (plan : ObName → MarkedPlan S W) (names : Level
+    → List ObName) (bytes : List ℕ) where
   pub proof_no_header :
       (unread : Unread) → header_front bytes ≡ Missing unread
       → AnswersJudged (proof_judged compare plan names bytes) (Err (unread_at (length bytes) 0 unread))
@@ -102,19 +109,20 @@ module _ {S W : Type 0} (compare : Comparison S) (plan : ObName → MarkedPlan S
         inr
         (sym
         (after_header
-        ∙ ap (λ (x : Result (List ℕ) ConfirmError). and_then_judged x (λ behind. and_then_judged (end_judged (length bytes) behind) (λ done. Ok level)))
-        is))
+        ∙ ap (λ (x : Result (List ℕ) ConfirmError).
+        and_then_judged x (λ behind. and_then_judged (end_judged (length bytes) behind) (λ done. Ok level))) is))
     proof_no_section confirm.NoMemory is = inl refl
 
     module _ (behind : ℕ)
-        (sections : Judges bytes (sections_judged compare plan (names level) (length bytes) (drop start bytes)) (Ok behind)) where
+        (sections : Judges bytes (sections_judged compare plan (names level) (length bytes) (drop start bytes))
+        (Ok behind)) where
       after_sections :
           proof_judged compare plan names bytes
           ≡ and_then_judged (end_judged (length bytes) (drop behind bytes)) (λ done. Ok level)
       after_sections =
           after_header
-          ∙ ap (λ (x : Result (List ℕ) ConfirmError). and_then_judged x (λ rest. and_then_judged (end_judged (length bytes) rest) (λ done. Ok level)))
-          sections.1
+          ∙ ap (λ (x : Result (List ℕ) ConfirmError).
+          and_then_judged x (λ rest. and_then_judged (end_judged (length bytes) rest) (λ done. Ok level))) sections.1
 
       -- what refuses the last line refuses the proof
       pub proof_no_end :
@@ -126,21 +134,24 @@ module _ {S W : Type 0} (compare : Comparison S) (plan : ObName → MarkedPlan S
           (sym
           (after_sections
           ∙ ap
-          (λ (x : Result (List ℕ) ConfirmError). and_then_judged (and_then_judged x (nothing_after (length bytes))) (λ done. Ok level))
-          is))
+          (λ (x : Result (List ℕ) ConfirmError).
+          and_then_judged (and_then_judged x (nothing_after (length bytes))) (λ done. Ok level)) is))
       proof_no_end confirm.NoMemory is = inl refl
 
       module _ (end : ℕ) (last : Judges bytes (line_judged (length bytes) end_front (drop behind bytes)) (Ok end)) where
         after_end :
-            proof_judged compare plan names bytes ≡ and_then_judged (nothing_after (length bytes) (drop end bytes)) (λ done. Ok level)
+            proof_judged compare plan names bytes
+            ≡ and_then_judged (nothing_after (length bytes) (drop end bytes)) (λ done. Ok level)
         unfolding end_judged
         after_end =
             after_sections
             ∙ ap
-            (λ (x : Result (List ℕ) ConfirmError). and_then_judged (and_then_judged x (nothing_after (length bytes))) (λ done. Ok level)) last.1
+            (λ (x : Result (List ℕ) ConfirmError).
+            and_then_judged (and_then_judged x (nothing_after (length bytes))) (λ done. Ok level)) last.1
 
         nothing_left :
-            (rest : List ℕ) → length rest ≡ 0 → and_then_judged (nothing_after (length bytes) rest) (λ done. Ok level) ≡ Ok level
+            (rest : List ℕ) → length rest ≡ 0
+            → and_then_judged (nothing_after (length bytes) rest) (λ done. Ok level) ≡ Ok level
         nothing_left [] none = refl
         nothing_left (b ∷ rest) some = absurd (omega arith)
 

@@ -1,6 +1,6 @@
 -- How the tokens of a tree are judged, one after another.
-use Rattle.std.proofs.Common.{◌≡◌, ℕ, zero, suc, ◌+◌, ◌-◌, ◌<◌, ◌≤◌, List, [], ◌∷◌, ◌++◌, length, drop, Result, Ok, Err, map, inl, inr, arith, refl, sym, ap}
-use Rattle.std.proofs.Common.{◌∙◌, subst, length-append, length-drop}
+use Rattle.std.proofs.Common.{◌≡◌, ℕ, zero, suc, ◌+◌, ◌-◌, ◌<◌, ◌≤◌, List, [], ◌∷◌, ◌++◌, length, drop, Result, Ok, Err}
+use Rattle.std.proofs.Common.{map, inl, inr, arith, refl, sym, ap, ◌∙◌, subst, length-append, length-drop}
 use Rattle.std.proofs.lemmas.List.{length-map}
 use Rattle.proof_trees.specs.declared.token.ProofTok.{ProofTok}
 use Rattle.proof_trees.specs.declared.token.ProofTok.TheVariants as token
@@ -23,8 +23,8 @@ use Rattle.proof_text.specs.Spelling.{proof_token_text, IsSpellableInProof}
 use Rattle.proof_text.specs.Tokens.{token_front}
 use Rattle.proof_sections.specs.declared.refusal.ConfirmError.{ConfirmError}
 use Rattle.proof_sections.specs.declared.refusal.ConfirmError.TheVariants as confirm
-use Rattle.proof_sections.specs.Judgement.{Judges, LeadsBehind, and_then_judged, line_judged, after_token, ended_or, refused_at, tree_by, tree_judged}
-use Rattle.proof_sections.specs.Judgement.{unread_at}
+use Rattle.proof_sections.specs.Judgement.{Judges, LeadsBehind, and_then_judged, line_judged, after_token, ended_or}
+use Rattle.proof_sections.specs.Judgement.{refused_at, tree_by, tree_judged, unread_at}
 
 -- tokens are found where they are spelled
 abbrev pub AreFound : Type 0
@@ -39,7 +39,8 @@ proof_token_text-some (token.Lemma ls) = omega arith
 proof_token_text-some (token.Cite number) = omega arith
 
 -- fewer bytes are left after a token
-pub fewer_after : AreFound → (tok : ProofTok) (bytes rest : List ℕ) → token_front bytes ≡ Found tok rest → length rest < length bytes
+pub fewer_after : AreFound → (tok : ProofTok) (bytes rest : List ℕ) → token_front bytes ≡ Found tok rest
+    → length rest < length bytes
 fewer_after exact tok bytes rest found =
     let spelled : bytes ≡ proof_token_text tok ++ rest = ((exact.found tok bytes rest).0 found).1 in
     let longer : length bytes ≡ length (proof_token_text tok) + length rest =
@@ -95,7 +96,8 @@ module _ {S W : Type 0} (compare : Comparison S) (total : ℕ) where
     pub tree_judged-found :
         (at : Standing S W) (left rest : List ℕ) (tok : ProofTok) → token_front left ≡ Found tok rest
         → tree_judged compare total at left
-        ≡ after_token (total - length left) rest (λ next. tree_judged compare total next rest) (after_proof_token compare tok at.known at.wanted)
+        ≡ after_token (total - length left) rest (λ next. tree_judged compare total next rest)
+        (after_proof_token compare tok at.known at.wanted)
     unfolding tree_judged tree_by
     tree_judged-found at [] rest tok found = absurd (cc)
     tree_judged-found at (b ∷ left) rest tok found =
@@ -121,7 +123,8 @@ module _ {S W : Type 0} (compare : Comparison S) (total : ℕ) where
         → tree_judged compare total at left ≡ tree_judged compare total next rest
     tree_judged-on at next left rest tok found taken some =
         tree_judged-found at left rest tok found
-        ∙ ap (λ (x : Result (Standing S W) ProofError). after_token (total - length left) rest (λ n. tree_judged compare total n rest) x) taken
+        ∙ ap (λ (x : Result (Standing S W) ProofError).
+        after_token (total - length left) rest (λ n. tree_judged compare total n rest) x) taken
         ∙ going_on next.wanted some (tree_judged compare total next rest)
       where
         going_on :
@@ -135,7 +138,8 @@ module _ {S W : Type 0} (compare : Comparison S) (total : ℕ) where
         → IsTaken compare tok at next → next.wanted ≡ [] → tree_judged compare total at left ≡ Ok rest
     tree_judged-done at next left rest tok found taken none =
         tree_judged-found at left rest tok found
-        ∙ ap (λ (x : Result (Standing S W) ProofError). after_token (total - length left) rest (λ n. tree_judged compare total n rest) x) taken
+        ∙ ap (λ (x : Result (Standing S W) ProofError).
+        after_token (total - length left) rest (λ n. tree_judged compare total n rest) x) taken
         ∙ ap (λ (w : List (Wanted S W)). ended_or w rest (tree_judged compare total next rest)) none
 
     pub tree_judged-refused :
@@ -144,21 +148,23 @@ module _ {S W : Type 0} (compare : Comparison S) (total : ℕ) where
         → tree_judged compare total at left ≡ Err (refused_at (total - length left) e)
     tree_judged-refused at left rest tok e found refused =
         tree_judged-found at left rest tok found
-        ∙ ap (λ (x : Result (Standing S W) ProofError). after_token (total - length left) rest (λ n. tree_judged compare total n rest) x) refused
+        ∙ ap (λ (x : Result (Standing S W) ProofError).
+        after_token (total - length left) rest (λ n. tree_judged compare total n rest) x) refused
 
 -- how many bytes stand before a place
 offset_at : (bytes : List ℕ) (at : ℕ) → at ≤ length bytes → length bytes - length (drop at bytes) ≡ at
 offset_at bytes at within = omega (arith, length-drop at bytes)
 
 judges_error :
-    (bytes : List ℕ) (judged : Result (List ℕ) ConfirmError) (e : ConfirmError) → judged ≡ Err e → Judges bytes judged (Err e)
+    (bytes : List ℕ) (judged : Result (List ℕ) ConfirmError) (e : ConfirmError) → judged ≡ Err e
+    → Judges bytes judged (Err e)
 judges_error bytes judged (confirm.Refused offset cause) same = same
 judges_error bytes judged confirm.NoMemory same = tt
 
 -- a token that is found and taken leads behind it, or to the end where nothing more is wanted
 pub front_leads :
-    {N S W : Type 0} (exact : AreFound) (compare : Comparison S) (total : ℕ) (p : Progress) (tok : ProofTok) (bytes rest : List ℕ)
-    (old : Standing S W) (starts : Starts N S W) (q : OpenProof N)
+    {N S W : Type 0} (exact : AreFound) (compare : Comparison S) (total : ℕ) (p : Progress) (tok : ProofTok)
+    (bytes rest : List ℕ) (old : Standing S W) (starts : Starts N S W) (q : OpenProof N)
     → token_front bytes ≡ Found tok rest → IsTaken compare tok old (standing_over starts q)
     → (p ≡ More → 0 < length q.wanted) → (p ≡ Done → q.wanted ≡ [])
     → LeadsBehind compare total p old bytes (standing_over starts q) rest
@@ -179,8 +185,8 @@ module _ {S W : Type 0} (exact : AreFound) (compare : Comparison S) (bytes : Lis
         → Judges bytes (tree_judged compare (length bytes) old (drop at bytes)) (Err (refused_at at e))
     token_refused tok rest e found (inl want) =
         subst
-        (λ (x : ProofError). Judges bytes (tree_judged compare (length bytes) old (drop at bytes)) (Err (refused_at at x)))
-        (sym want) tt
+        (λ (x : ProofError). Judges bytes (tree_judged compare (length bytes) old (drop at bytes))
+        (Err (refused_at at x))) (sym want) tt
     token_refused tok rest e found (inr refused) =
         judges_error bytes (tree_judged compare (length bytes) old (drop at bytes)) (refused_at at e)
         (tree_judged-refused compare (length bytes) exact old (drop at bytes) rest tok e found refused
@@ -188,7 +194,8 @@ module _ {S W : Type 0} (exact : AreFound) (compare : Comparison S) (bytes : Lis
 
     pub token_unread :
         (unread : Unread) → token_front (drop at bytes) ≡ Missing unread
-        → Judges bytes (tree_judged compare (length bytes) old (drop at bytes)) (Err (unread_at (length bytes) at unread))
+        → Judges bytes (tree_judged compare (length bytes) old (drop at bytes))
+        (Err (unread_at (length bytes) at unread))
     token_unread unread missing =
         judges_error bytes (tree_judged compare (length bytes) old (drop at bytes)) (unread_at (length bytes) at unread)
         (tree_judged-missing compare (length bytes) exact old (drop at bytes) unread missing
@@ -212,12 +219,14 @@ line_unread front bytes at unread within missing =
 pub judges_then :
     (bytes : List ℕ) (one : Result (List ℕ) ConfirmError) (next : List ℕ → Result (List ℕ) ConfirmError) (at : ℕ)
     (result : Result ℕ ConfirmError)
-    → Judges bytes one (Ok at) → Judges bytes (next (drop at bytes)) result → Judges bytes (and_then_judged one next) result
+    → Judges bytes one (Ok at) → Judges bytes (next (drop at bytes)) result
+    → Judges bytes (and_then_judged one next) result
 judges_then bytes one next at result (within, is) later =
     subst (λ (x : Result (List ℕ) ConfirmError). Judges bytes (and_then_judged x next) result) (sym is) later
 
 pub judges_not :
-    (bytes : List ℕ) (one : Result (List ℕ) ConfirmError) (next : List ℕ → Result (List ℕ) ConfirmError) (e : ConfirmError)
+    (bytes : List ℕ) (one : Result (List ℕ) ConfirmError) (next : List ℕ
+    → Result (List ℕ) ConfirmError) (e : ConfirmError)
     → Judges bytes one (Err e) → Judges bytes (and_then_judged one next) (Err e)
 judges_not bytes one next (confirm.Refused offset cause) is =
     ap (λ (x : Result (List ℕ) ConfirmError). and_then_judged x next) is

@@ -1,10 +1,8 @@
 //! How the bytes of a proof are judged, part by part from the front: whether they are a tree that shows its plan, and
 //! where and why not. The plans with their starts, and how starts compare, are given.
 //!
-//! The layers above rely on one definition, `proof_judged`, which computes the judgement of any bytes: the level of a
-//! proof, or the offset of what is refused first and its cause; and on `judge_tree`, which answers so of a tree.
-//!
-//! Who judges takes nothing from who searches.
+//! The layers above rely on `proof_judged`, which computes the judgement of any bytes: the level of a proof, or the
+//! offset and the cause of what is refused first; and on `judge_tree`, which answers so of a tree.
 #![tactic(auto)]
 
 mod laws;

@@ -7,13 +7,13 @@ ghost use Rattle.proof_sections.specs.Judgement.{FrontLeadsTo, Judges, TokenLead
 ghost use Rattle.proof_sections.specs.Judgement.{tree_judged, unread_at};
 
 use crate::refusal::{ConfirmError, ProofRefusal};
+use ot_sections::cycle_front;
 use proof_check::{CheckError, Progress, ProofChecker, ProofError};
 use proof_text::{
     Unread, certificate_tokens_are_spelled_alike, read_token, tokens_are_found_exactly,
 };
 use proof_trees::{ProofTok, Starter};
 use std::alloc::Global;
-use text_cycles::cycle_front;
 
 // The refusal of a token at an offset.
 fn refusal_at(offset: usize, refusal: ProofError) -> ConfirmError

@@ -45,7 +45,8 @@ finds_exactly {A} {front} {text} {Spelled} s =
         (sym (found_stays s b bytes rest more is) ∙ ap front (sym text_is) ∙ whole a spelled) in
         omega (arith, ap length same.1, length-append rest more)
 
-    is_cut : (bytes : List ℕ) (x : Parsed A) → front bytes ≡ x → EndWithin text Spelled bytes → front bytes ≡ Missing Cut
+    is_cut : (bytes : List ℕ) (x : Parsed A) → front bytes ≡ x → EndWithin text Spelled bytes
+        → front bytes ≡ Missing Cut
     is_cut bytes (Found b rest) is h = absurd (no_found bytes h.1 rest h.0 b is h.2 h.4 h.3)
     is_cut bytes (Missing Cut) is h = is
     is_cut bytes (Missing Misspelt) is h =
@@ -57,7 +58,8 @@ finds_exactly {A} {front} {text} {Spelled} s =
       λ e. found_is_not_missing a more Misspelt (sym (s.written a more spelled tt) ∙ ap front (sym e) ∙ is),
     )
 
-    is_misspelt : (bytes : List ℕ) (x : Parsed A) → front bytes ≡ x → BeginNone text Spelled bytes → front bytes ≡ Missing Misspelt
+    is_misspelt : (bytes : List ℕ) (x : Parsed A) → front bytes ≡ x → BeginNone text Spelled bytes
+        → front bytes ≡ Missing Misspelt
     is_misspelt bytes (Found b rest) is h = let r = s.read b bytes rest is in absurd ((h b rest r.0).1 r.2)
     is_misspelt bytes (Missing Cut) is h = let c = s.cut bytes is in absurd ((h c.0 c.1 c.2).0 c.3)
     is_misspelt bytes (Missing Misspelt) is h = is

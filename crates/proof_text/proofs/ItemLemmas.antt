@@ -1,14 +1,14 @@
 -- Lists are found exactly where their items stand with a byte between two of them and one that ends them.
-use Rattle.std.proofs.Common.{◌≡◌, ◌≢◌, ⊎_elim, ℕ, zero, suc, ◌+◌, ◌-◌, ◌<◌, ◌≤◌, true, false, List, [], ◌∷◌, ◌++◌, length, refl, sym, ap, ◌∙◌, arith, subst}
-use Rattle.std.proofs.Common.{append_assoc}
+use Rattle.std.proofs.Common.{◌≡◌, ◌≢◌, ⊎_elim, ℕ, zero, suc, ◌+◌, ◌-◌, ◌<◌, ◌≤◌, true, false, List, [], ◌∷◌, ◌++◌}
+use Rattle.std.proofs.Common.{length, refl, sym, ap, ◌∙◌, arith, subst, append_assoc}
 use Rattle.std.proofs.lemmas.List.{append-nil, length_push}
 use Rattle.std.specs.List.{AllByRecursion}
 use Rattle.std.specs.Prelude.{nat_eq}
 use Rattle.proof_text.specs.declared.unread.Unread.{Unread}
 use Rattle.proof_text.specs.declared.unread.Unread.TheVariants.{Misspelt, Cut}
 use Rattle.proof_text.specs.Fronts.{Parsed, Found, Missing, after_item, and_then, found_as, items_front}
-use Rattle.proof_text.proofs.Spells.{Spells, IsAnything, and_then_found, and_then_missing, cut_is_not_misspelt, found_as_found, found_as_missing}
-use Rattle.proof_text.proofs.Spells.{found_is_not_missing, found_stays, same_found}
+use Rattle.proof_text.proofs.Spells.{Spells, IsAnything, and_then_found, and_then_missing, cut_is_not_misspelt}
+use Rattle.proof_text.proofs.Spells.{found_as_found, found_as_missing, found_is_not_missing, found_stays, same_found}
 use Rattle.proof_text.proofs.FixedLemmas.{other_byte, same_byte, same_byte_or_not}
 
 -- what stands behind an item: the others, each after the byte between, and the last byte
@@ -41,12 +41,14 @@ pub at_stop :
 at_stop {A} between stop b others a rest is = rw is refl
 
 pub at_between :
-    {A : Type 0} (between stop b : ℕ) (others : List ℕ → Parsed (List A)) (a : A) (rest : List ℕ) → nat_eq b stop ≡ false
+    {A : Type 0} (between stop b : ℕ) (others : List ℕ → Parsed (List A)) (a : A) (rest : List ℕ)
+    → nat_eq b stop ≡ false
     → nat_eq b between ≡ true → after_item between stop others a (b ∷ rest) ≡ found_as (λ more. a ∷ more) (others rest)
 at_between {A} between stop b others a rest other is = rw (other, is) refl
 
 pub at_other :
-    {A : Type 0} (between stop b : ℕ) (others : List ℕ → Parsed (List A)) (a : A) (rest : List ℕ) → nat_eq b stop ≡ false
+    {A : Type 0} (between stop b : ℕ) (others : List ℕ → Parsed (List A)) (a : A) (rest : List ℕ)
+    → nat_eq b stop ≡ false
     → nat_eq b between ≡ false → after_item between stop others a (b ∷ rest) ≡ Missing Misspelt
 at_other {A} between stop b others a rest other wrong = rw (other, wrong) refl
 
@@ -77,7 +79,8 @@ AreItems S room items = (1 ≤ length items) × (length items ≤ room) × AllBy
 
 -- a list is found exactly where its items stand, with a byte between two of them and one that ends them
 pub items_spelled :
-    {A : Type 0} {item : List ℕ → Parsed A} {text : A → List ℕ} {S : A → Type 0} {N : List ℕ → Type 0} (between stop : ℕ)
+    {A : Type 0} {item : List ℕ → Parsed A} {text : A → List ℕ} {S : A → Type 0} {N : List ℕ
+    → Type 0} (between stop : ℕ)
     → Spells item text S N → ((rest : List ℕ) → N (between ∷ rest)) → ((rest : List ℕ) → N (stop ∷ rest))
     → nat_eq between stop ≡ false → (room : ℕ)
     → Spells (items_front item between stop room) (items_text text between stop) (AreItems S room) IsAnything
@@ -97,22 +100,27 @@ items_spelled {A} {item} {text} {S} {N} between stop s between_next stop_next di
     written (suc room) [] rest are = absurd (omega (arith, are.0))
     written (suc room) (a ∷ []) rest are =
         items_step item between stop room ((text a ++ stop ∷ []) ++ rest)
-        ∙ ap (λ (l : List ℕ). and_then (item l) (after_item between stop (items_front item between stop room))) (append_assoc (text a) (stop ∷ []) rest)
+        ∙ ap (λ (l : List ℕ). and_then (item l) (after_item between stop (items_front item between stop room)))
+        (append_assoc (text a) (stop ∷ []) rest)
         ∙ ap (λ (x : Parsed A). and_then x (after_item between stop (items_front item between stop room)))
         (s.written a (stop ∷ rest) are.2.0 (stop_next rest))
         ∙ at_stop between stop stop (items_front item between stop room) a rest (same_byte stop)
     written (suc room) (a ∷ b ∷ more) rest are =
         let behind : List ℕ = items_text text between stop (b ∷ more) in
         items_step item between stop room ((text a ++ between ∷ behind) ++ rest)
-        ∙ ap (λ (l : List ℕ). and_then (item l) (after_item between stop (items_front item between stop room))) (append_assoc (text a) (between ∷ behind) rest)
+        ∙ ap (λ (l : List ℕ). and_then (item l) (after_item between stop (items_front item between stop room)))
+        (append_assoc (text a) (between ∷ behind) rest)
         ∙ ap (λ (x : Parsed A). and_then x (after_item between stop (items_front item between stop room)))
         (s.written a (between ∷ (behind ++ rest)) are.2.0 (between_next (behind ++ rest)))
-        ∙ at_between between stop between (items_front item between stop room) a (behind ++ rest) differ (same_byte between)
-        ∙ ap (found_as (λ (l : List A). a ∷ l)) (written room (b ∷ more) rest (omega arith, omega (arith, are.1), are.2.1))
+        ∙ at_between between stop between (items_front item between stop room) a (behind ++ rest)
+        differ (same_byte between)
+        ∙ ap (found_as (λ (l : List A). a ∷ l))
+        (written room (b ∷ more) rest (omega arith, omega (arith, are.1), are.2.1))
 
     -- an item, and the others behind it
     more_items :
-        (room : ℕ) (a : A) (more : List A) (bytes between_bytes rest : List ℕ) → S a → bytes ≡ text a ++ between ∷ between_bytes
+        (room : ℕ) (a : A) (more : List A) (bytes between_bytes rest : List ℕ) → S a
+        → bytes ≡ text a ++ between ∷ between_bytes
         → AreItems S room more × (between_bytes ≡ items_text text between stop more ++ rest)
         → AreItems S (suc room) (a ∷ more) × (bytes ≡ items_text text between stop (a ∷ more) ++ rest)
     more_items room a more bytes between_bytes rest spelled is h = (
@@ -134,8 +142,10 @@ items_spelled {A} {item} {text} {S} {N} between stop s between_next stop_next di
     read_next room items a bytes (b ∷ behind) rest ih spelled text_is is =
         elim (next_of between stop b) [
           | Stop test same ↦
-              let found = same_found (a ∷ []) items behind rest (sym (at_stop between stop b (items_front item between stop room) a behind test) ∙ is) in
-              subst (λ (l : List A). AreItems S (suc room) l × (bytes ≡ items_text text between stop l ++ rest)) found.0 (
+              let found = same_found (a ∷ []) items behind rest
+              (sym (at_stop between stop b (items_front item between stop room) a behind test) ∙ is) in
+              subst (λ (l : List A). AreItems S (suc room) l
+              × (bytes ≡ items_text text between stop l ++ rest)) found.0 (
                 (omega arith, omega arith, (spelled, tt)),
                 text_is ∙ ap (λ (k : ℕ). text a ++ k ∷ behind) same ∙ ap (λ (l : List ℕ). text a ++ stop ∷ l) found.1
                     ∙ sym (append_assoc (text a) (stop ∷ []) rest),
@@ -157,8 +167,8 @@ items_spelled {A} {item} {text} {S} {N} between stop s between_next stop_next di
     read zero items bytes rest is =
         absurd (found_is_not_missing items rest Misspelt (sym is ∙ items_none item between stop bytes))
     read (suc room) items bytes rest is =
-        let found = and_then_found (item bytes) (after_item between stop (items_front item between stop room)) items rest
-        (sym (items_step item between stop room bytes) ∙ is) in
+        let found = and_then_found (item bytes) (after_item between stop (items_front item between stop room)) items
+        rest (sym (items_step item between stop room bytes) ∙ is) in
         let r = s.read found.0 bytes found.1 found.2 in
         read_next room items found.0 bytes found.1 rest (λ more b r e. read room more b r e) r.0 r.2 found.3
 
@@ -169,7 +179,8 @@ items_spelled {A} {item} {text} {S} {N} between stop s between_next stop_next di
         → (more : List A) × (r : List ℕ) × AreItems S room more × (items_text text between stop more ≡ b ++ r))
         → S a → bytes ≡ text a ++ behind
         → after_item between stop (items_front item between stop room) a behind ≡ Missing Cut
-        → (items : List A) × (more : List ℕ) × AreItems S (suc room) items × (items_text text between stop items ≡ bytes ++ more)
+        → (items : List A) × (more : List ℕ) × AreItems S (suc room) items
+        × (items_text text between stop items ≡ bytes ++ more)
     cut_next room a bytes [] ih spelled text_is is = (
       a ∷ [],
       stop ∷ [],
@@ -182,7 +193,8 @@ items_spelled {A} {item} {text} {S} {N} between stop s between_next stop_next di
               absurd (found_is_not_missing (a ∷ []) behind Cut
               (sym (at_stop between stop b (items_front item between stop room) a behind test) ∙ is))
           | Between other test same ↦
-              let c = ih behind (found_as_missing (λ (l : List A). a ∷ l) (items_front item between stop room behind) Cut
+              let c =
+              ih behind (found_as_missing (λ (l : List A). a ∷ l) (items_front item between stop room behind) Cut
               (sym (at_between between stop b (items_front item between stop room) a behind other test) ∙ is)) in (
                 a ∷ c.0,
                 c.1,
@@ -194,15 +206,17 @@ items_spelled {A} {item} {text} {S} {N} between stop s between_next stop_next di
                     ∙ ap (λ (l : List ℕ). l ++ c.1) (sym text_is),
               )
           | Other other wrong ↦
-              absurd (cut_is_not_misspelt (after_item between stop (items_front item between stop room) a (b ∷ behind)) is
-              (at_other between stop b (items_front item between stop room) a behind other wrong))
+              absurd (cut_is_not_misspelt (after_item between stop (items_front item between stop room) a (b ∷ behind))
+              is (at_other between stop b (items_front item between stop room) a behind other wrong))
         ]
 
     -- bytes that end too early are a front of some list
     cut :
         (room : ℕ) (bytes : List ℕ) → items_front item between stop room bytes ≡ Missing Cut
-        → (items : List A) × (more : List ℕ) × AreItems S room items × (items_text text between stop items ≡ bytes ++ more)
-    cut zero bytes is = absurd (cut_is_not_misspelt (items_front item between stop zero bytes) is (items_none item between stop bytes))
+        → (items : List A) × (more : List ℕ) × AreItems S room items
+        × (items_text text between stop items ≡ bytes ++ more)
+    cut zero bytes is =
+        absurd (cut_is_not_misspelt (items_front item between stop zero bytes) is (items_none item between stop bytes))
     cut (suc room) bytes is =
         ⊎_elim
         (λ (front : item bytes ≡ Missing Cut).
@@ -212,7 +226,8 @@ items_spelled {A} {item} {text} {S} {N} between stop s between_next stop_next di
           (omega arith, omega arith, (c.2, tt)),
           ap (λ (l : List ℕ). l ++ stop ∷ []) c.3 ∙ append_assoc bytes c.1 (stop ∷ []),
         ))
-        (λ (h : (a : A) × (r : List ℕ) × (item bytes ≡ Found a r) × (after_item between stop (items_front item between stop room) a r ≡ Missing Cut)).
+        (λ (h : (a : A) × (r : List ℕ) × (item bytes ≡ Found a r)
+        × (after_item between stop (items_front item between stop room) a r ≡ Missing Cut)).
         let r = s.read h.0 bytes h.1 h.2 in
         cut_next room h.0 bytes h.1 (λ b e. cut room b e) r.0 r.2 h.3)
         (and_then_missing (item bytes) (after_item between stop (items_front item between stop room)) Cut
@@ -237,7 +252,8 @@ items_spelled {A} {item} {text} {S} {N} between stop s between_next stop_next di
               ∙ ap (found_as (λ (l : List A). a ∷ l))
               (ih behind (found_as_missing (λ (l : List A). a ∷ l) (items_front item between stop room behind) Misspelt
               (sym (at_between between stop b (items_front item between stop room) a behind other test) ∙ is)))
-          | Other other wrong ↦ at_other between stop b (items_front item between stop room) a (behind ++ more) other wrong
+          | Other other wrong ↦
+              at_other between stop b (items_front item between stop room) a (behind ++ more) other wrong
         ]
 
     -- a misspelt list stays so, whatever follows
@@ -249,9 +265,12 @@ items_spelled {A} {item} {text} {S} {N} between stop s between_next stop_next di
         items_step item between stop room (bytes ++ more)
         ∙ ⊎_elim
         (λ (front : item bytes ≡ Missing Misspelt).
-        ap (λ (x : Parsed A). and_then x (after_item between stop (items_front item between stop room))) (s.misspelt bytes more front))
-        (λ (h : (a : A) × (r : List ℕ) × (item bytes ≡ Found a r) × (after_item between stop (items_front item between stop room) a r ≡ Missing Misspelt)).
-        ap (λ (x : Parsed A). and_then x (after_item between stop (items_front item between stop room))) (found_stays s h.0 bytes h.1 more h.2)
+        ap (λ (x : Parsed A). and_then x (after_item between stop (items_front item between stop room)))
+        (s.misspelt bytes more front))
+        (λ (h : (a : A) × (r : List ℕ) × (item bytes ≡ Found a r)
+        × (after_item between stop (items_front item between stop room) a r ≡ Missing Misspelt)).
+        ap (λ (x : Parsed A). and_then x (after_item between stop (items_front item between stop room)))
+        (found_stays s h.0 bytes h.1 more h.2)
         ∙ misspelt_next room h.0 h.1 more (λ b e. misspelt room b more e) h.3)
         (and_then_missing (item bytes) (after_item between stop (items_front item between stop room)) Misspelt
         (sym (items_step item between stop room bytes) ∙ is))
@@ -270,7 +289,8 @@ room_step {A} item between stop (suc room) bytes some =
 found_step :
     {A : Type 0} (item : List ℕ → Parsed A) (between stop room : ℕ) (bytes rest : List ℕ) (a : A) → 0 < room
     → item bytes ≡ Found a rest
-    → items_front item between stop room bytes ≡ after_item between stop (items_front item between stop (room - 1)) a rest
+    → items_front item between stop room bytes
+    ≡ after_item between stop (items_front item between stop (room - 1)) a rest
 found_step {A} item between stop room bytes rest a some is =
     room_step item between stop room bytes some
     ∙ ap (λ (x : Parsed A). and_then x (after_item between stop (items_front item between stop (room - 1)))) is
@@ -312,7 +332,8 @@ pub item_wrong :
 item_wrong {A} item between stop room b bytes rest behind a some is rest_is no_stop no_between =
     found_step item between stop room bytes rest a some is
     ∙ ap (after_item between stop (items_front item between stop (room - 1)) a) rest_is
-    ∙ at_other between stop b (items_front item between stop (room - 1)) a behind (other_byte b stop no_stop) (other_byte b between no_between)
+    ∙ at_other between stop b (items_front item between stop (room - 1)) a behind (other_byte b stop no_stop)
+    (other_byte b between no_between)
 
 -- the byte between items does
 pub item_more :
@@ -323,7 +344,8 @@ pub item_more :
 item_more {A} item between stop room b bytes rest behind a some is rest_is no_stop same =
     found_step item between stop room bytes rest a some is
     ∙ ap (after_item between stop (items_front item between stop (room - 1)) a) rest_is
-    ∙ at_between between stop b (items_front item between stop (room - 1)) a behind (other_byte b stop no_stop) (rw same (same_byte between))
+    ∙ at_between between stop b (items_front item between stop (room - 1)) a behind (other_byte b stop no_stop)
+    (rw same (same_byte between))
 
 -- the same where no further item may come
 pub item_over :
@@ -338,17 +360,20 @@ item_over {A} item between stop room b bytes rest behind a one is rest_is no_sto
 
 -- and what the other items come to
 pub item_more_found :
-    {A : Type 0} (item : List ℕ → Parsed A) (between stop room left b : ℕ) (bytes rest behind last : List ℕ) (a : A) (more : List A)
+    {A : Type 0} (item : List ℕ → Parsed A) (between stop room left b : ℕ)
+    (bytes rest behind last : List ℕ) (a : A) (more : List A)
     → 0 < room → left ≡ room - 1 → item bytes ≡ Found a rest → rest ≡ b ∷ behind → b ≢ stop → b ≡ between
     → items_front item between stop left behind ≡ Found more last
     → items_front item between stop room bytes ≡ Found (a ∷ more) last
-item_more_found {A} item between stop room left b bytes rest behind last a more some less is rest_is no_stop same found =
+item_more_found {A} item between stop room left b bytes rest behind last a more some less is
+    rest_is no_stop same found =
     item_more item between stop room b bytes rest behind a some is rest_is no_stop same
     ∙ ap (λ k. found_as (λ (l : List A). a ∷ l) (items_front item between stop k behind)) (sym less)
     ∙ ap (found_as (λ (l : List A). a ∷ l)) found
 
 pub item_more_missing :
-    {A : Type 0} (item : List ℕ → Parsed A) (between stop room left b : ℕ) (bytes rest behind : List ℕ) (a : A) (why : Unread)
+    {A : Type 0} (item : List ℕ → Parsed A) (between stop room left b : ℕ)
+    (bytes rest behind : List ℕ) (a : A) (why : Unread)
     → 0 < room → left ≡ room - 1 → item bytes ≡ Found a rest → rest ≡ b ∷ behind → b ≢ stop → b ≡ between
     → items_front item between stop left behind ≡ Missing why
     → items_front item between stop room bytes ≡ Missing why

@@ -1,6 +1,6 @@
 -- Numbers are found exactly where their digits stand with no digit behind them.
-use Rattle.std.proofs.Common.{◌≡◌, ◌⊎◌, inl, inr, ⊎_elim, ℕ, zero, suc, ◌+◌, ◌-◌, ◌*◌, ◌/◌, ◌%◌, ◌^◌, ◌<◌, ◌≤◌, true, false, List, [], ◌∷◌, ◌++◌, refl, sym, ap}
-use Rattle.std.proofs.Common.{◌∙◌, arith, subst, append_assoc}
+use Rattle.std.proofs.Common.{◌≡◌, ◌⊎◌, inl, inr, ⊎_elim, ℕ, zero, suc, ◌+◌, ◌-◌, ◌*◌, ◌/◌, ◌%◌, ◌^◌, ◌<◌, ◌≤◌, true}
+use Rattle.std.proofs.Common.{false, List, [], ◌∷◌, ◌++◌, refl, sym, ap, ◌∙◌, arith, subst, append_assoc}
 use Rattle.std.proofs.lemmas.Bool.Decides.{nat_tests}
 use Rattle.std.proofs.lemmas.List.{append-nil}
 use Rattle.std.proofs.lemmas.Fmt.{decimal_digit, decimal_step}
@@ -39,12 +39,15 @@ decimal-push n b some few low high =
     let small : m < 2 ^ 64 = omega arith in
     let front : m / 10 ≡ n = omega arith in
     let last : 48 + m % 10 ≡ b = omega arith in
-    decimal_step m large small ∙ ap (λ (k : ℕ). decimal k ++ (48 + m % 10) ∷ []) front ∙ ap (λ (d : ℕ). decimal n ++ d ∷ []) last
+    decimal_step m large small ∙ ap (λ (k : ℕ). decimal k ++ (48 + m % 10) ∷ []) front
+    ∙ ap (λ (d : ℕ). decimal n ++ d ∷ []) last
 
 -- a number may have a further digit or not
-more_digits : (short n : ℕ) → ((nat_lt 0 n && nat_lt n short ≡ true) × (0 < n) × (n < short)) ⊎ (nat_lt 0 n && nat_lt n short ≡ false)
+more_digits : (short n : ℕ)
+    → ((nat_lt 0 n && nat_lt n short ≡ true) × (0 < n) × (n < short)) ⊎ (nat_lt 0 n && nat_lt n short ≡ false)
 more_digits short n =
-    elim (nat_lt 0 n && nat_lt n short) as (λ v. (nat_lt 0 n && nat_lt n short ≡ v) → ((v ≡ true) × (0 < n) × (n < short)) ⊎ (v ≡ false)) [
+    elim (nat_lt 0 n && nat_lt n short) as (λ v. (nat_lt 0 n && nat_lt n short ≡ v)
+    → ((v ≡ true) × (0 < n) × (n < short)) ⊎ (v ≡ false)) [
       | true ↦ λ is. inl (refl, grind (arith, nat_tests), grind (arith, nat_tests))
       | false ↦ λ is. inr refl
     ] refl
@@ -76,7 +79,8 @@ number_is_reached fuel short n rest within below few = by_size fuel short n rest
     small_or_large : (n : ℕ) → (n < 10) ⊎ (10 ≤ n)
     small_or_large n = grind arith
 
-    one_digit : (short n : ℕ) (rest : List ℕ) → n < 10 → number_front short (decimal n ++ rest) ≡ digits_front short n rest
+    one_digit : (short n : ℕ) (rest : List ℕ) → n < 10
+        → number_front short (decimal n ++ rest) ≡ digits_front short n rest
     one_digit short n rest small =
         let text : decimal n ≡ (48 + n) ∷ [] = decimal_digit n small in
         let digit : is_ascii_digit (48 + n) ≡ true = IsDigit-true (48 + n) (omega arith) (omega arith) in
@@ -111,16 +115,18 @@ digits_read short n m (b ∷ bytes) rest below few is =
     ⊎_elim
     (λ (digit : is_ascii_digit b ≡ true).
     ⊎_elim
-    (λ (more : (nat_lt 0 n && nat_lt n short ≡ true) × (0 < n) × (n < short)). goes_on short n m b bytes rest few digit more.0 more.1 more.2
+    (λ (more : (nat_lt 0 n && nat_lt n short ≡ true) × (0 < n) × (n < short)).
+    goes_on short n m b bytes rest few digit more.0 more.1 more.2
     (λ k less e. digits_read short k m bytes rest less few e) is)
     (λ (more : nat_lt 0 n && nat_lt n short ≡ false).
     absurd (found_is_not_missing m rest Misspelt (sym is ∙ digits_wrong short n b bytes digit more)))
     (more_digits short n))
-    (λ (none : is_ascii_digit b ≡ false). ends short n m b bytes rest below none (same_found n m (b ∷ bytes) rest (sym (digits_end short n b bytes none) ∙ is)))
-    (digit_or_none b)
+    (λ (none : is_ascii_digit b ≡ false). ends short n m b bytes rest below none
+    (same_found n m (b ∷ bytes) rest (sym (digits_end short n b bytes none) ∙ is))) (digit_or_none b)
   where
     ends :
-        (short n m b : ℕ) (bytes rest : List ℕ) → n < short * 10 → is_ascii_digit b ≡ false → (n ≡ m) × (b ∷ bytes ≡ rest)
+        (short n m b : ℕ) (bytes rest : List ℕ) → n < short * 10 → is_ascii_digit b ≡ false
+        → (n ≡ m) × (b ∷ bytes ≡ rest)
         → (m < short * 10) × NoDigitNext rest × (decimal n ++ b ∷ bytes ≡ decimal m ++ rest)
     ends short n m b bytes rest below none same = (
       omega (arith, same.0),
@@ -161,8 +167,8 @@ digits_cut short n (b ∷ bytes) below few is =
     (λ (more : nat_lt 0 n && nat_lt n short ≡ false). absurd (cut_is_not_misspelt (digits_front short n (b ∷ bytes)) is
     (digits_wrong short n b bytes digit more)))
     (more_digits short n))
-    (λ (none : is_ascii_digit b ≡ false). absurd (found_is_not_missing n (b ∷ bytes) Cut (sym (digits_end short n b bytes none) ∙ is)))
-    (digit_or_none b)
+    (λ (none : is_ascii_digit b ≡ false).
+    absurd (found_is_not_missing n (b ∷ bytes) Cut (sym (digits_end short n b bytes none) ∙ is))) (digit_or_none b)
   where
     goes_on :
         (short n b : ℕ) (bytes : List ℕ) → short ≤ 100000 → is_ascii_digit b ≡ true
@@ -203,20 +209,24 @@ digits_misspelt short n (b ∷ bytes) more is =
 
 -- a first digit
 number_first :
-    (short b : ℕ) (bytes : List ℕ) → is_ascii_digit b ≡ true → number_front short (b ∷ bytes) ≡ digits_front short (b - 48) bytes
+    (short b : ℕ) (bytes : List ℕ) → is_ascii_digit b ≡ true
+    → number_front short (b ∷ bytes) ≡ digits_front short (b - 48) bytes
 number_first short b bytes digit = rw digit refl
 
-no_number : (short b : ℕ) (bytes : List ℕ) → is_ascii_digit b ≡ false → number_front short (b ∷ bytes) ≡ Missing Misspelt
+no_number : (short b : ℕ) (bytes : List ℕ) → is_ascii_digit b ≡ false
+    → number_front short (b ∷ bytes) ≡ Missing Misspelt
 no_number short b bytes none = rw none refl
 
 first_digit : (b : ℕ) → 48 ≤ b → b ≤ 57 → decimal (b - 48) ≡ b ∷ []
 first_digit b low high = decimal_digit (b - 48) (omega arith) ∙ ap (λ (k : ℕ). k ∷ []) (omega arith)
 
 -- a number is found exactly where its digits stand and no digit follows
-pub numbers_spelled : (short : ℕ) → 1 ≤ short → short ≤ 100000 → Spells (number_front short) decimal (λ n. n < short * 10) NoDigitNext
+pub numbers_spelled : (short : ℕ) → 1 ≤ short → short ≤ 100000
+    → Spells (number_front short) decimal (λ n. n < short * 10) NoDigitNext
 numbers_spelled short some few =
     record {
-      written = λ n rest below behind. number_is_reached n short n rest (omega arith) below few ∙ end short n rest behind;
+      written = λ n rest below behind. number_is_reached n short n rest (omega arith) below few
+          ∙ end short n rest behind;
       read = λ n bytes rest is. read short n bytes rest some few is;
       behind = NoDigitNext-more;
       cut = λ bytes is. cut short bytes some few is;
@@ -238,10 +248,11 @@ numbers_spelled short some few =
         let range = IsDigit-range b digit in
         let low : 48 ≤ b = range.0 in
         let high : b ≤ 57 = range.1 in
-        let r = digits_read short (b - 48) n bytes rest (omega arith) few (sym (number_first short b bytes digit) ∙ is) in
+        let r = digits_read short (b - 48) n bytes rest (omega arith) few
+        (sym (number_first short b bytes digit) ∙ is) in
         (r.0, r.1, ap (λ (l : List ℕ). l ++ bytes) (sym (first_digit b low high)) ∙ r.2))
-        (λ (none : is_ascii_digit b ≡ false). absurd (found_is_not_missing n rest Misspelt (sym is ∙ no_number short b bytes none)))
-        (digit_or_none b)
+        (λ (none : is_ascii_digit b ≡ false).
+        absurd (found_is_not_missing n rest Misspelt (sym is ∙ no_number short b bytes none))) (digit_or_none b)
 
     -- bytes that end too early are a front of some number
     cut :
@@ -256,8 +267,8 @@ numbers_spelled short some few =
         let high : b ≤ 57 = range.1 in
         let r = digits_cut short (b - 48) bytes (omega arith) few (sym (number_first short b bytes digit) ∙ is) in
         (r.0, r.1, r.2, r.3 ∙ ap (λ (l : List ℕ). l ++ (bytes ++ r.1)) (first_digit b low high)))
-        (λ (none : is_ascii_digit b ≡ false). absurd (cut_is_not_misspelt (number_front short (b ∷ bytes)) is (no_number short b bytes none)))
-        (digit_or_none b)
+        (λ (none : is_ascii_digit b ≡ false). absurd (cut_is_not_misspelt (number_front short (b ∷ bytes)) is
+        (no_number short b bytes none))) (digit_or_none b)
 
     -- a misspelt number stays so, whatever follows
     misspelt :

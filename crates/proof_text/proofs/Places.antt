@@ -1,6 +1,6 @@
 -- Where what was found ends in the bytes, and what calls answer.
-use Rattle.std.proofs.Common.{◌≡◌, ℕ, ◌+◌, ◌-◌, ◌<◌, ◌≤◌, List, ◌++◌, length, take, drop, Result, Ok, Err, IfOk, IfErr, sym, ap, ◌∙◌, arith, append_assoc}
-use Rattle.std.proofs.Common.{length-append, length-drop}
+use Rattle.std.proofs.Common.{◌≡◌, ℕ, ◌+◌, ◌-◌, ◌<◌, ◌≤◌, List, ◌++◌, length, take, drop, Result, Ok, Err, IfOk, IfErr}
+use Rattle.std.proofs.Common.{sym, ap, ◌∙◌, arith, append_assoc, length-append, length-drop}
 use Rattle.std.proofs.lemmas.List.{length-take-le, take-append-drop, take_all}
 use Rattle.std.proofs.Math.Seq.{drop-append_seam}
 use Rattle.proof_text.specs.Fronts.{Parsed, Found}
@@ -13,7 +13,8 @@ pub found_behind :
 found_behind all at text rest within is some =
     let front : List ℕ = take at all ++ text in
     let whole : all ≡ front ++ rest =
-    sym (take-append-drop at all) ∙ ap (λ (l : List ℕ). take at all ++ l) is ∙ sym (append_assoc (take at all) text rest) in
+    sym (take-append-drop at all) ∙ ap (λ (l : List ℕ). take at all ++ l) is
+    ∙ sym (append_assoc (take at all) text rest) in
     let len : length all ≡ length front + length rest = omega (arith, ap length whole, length-append front rest) in
     let taken : length (take at all) ≡ at = length-take-le at all within in
     let count : length front ≡ at + length text = omega (arith, length-append (take at all) text) in

@@ -6,11 +6,14 @@ use Rattle.proof_text.specs.Fronts.{Parsed, Found, Missing, and_then, found_as}
 
 -- the value is found exactly where its spelling stands and something that may stand behind it; where the bytes are cut
 -- they begin a spelling, and where they are misspelt so is what goes on with them
-pub record Spells {A : Type 0} (front : List ℕ → Parsed A) (text : A → List ℕ) (Spelled : A → Type 0) (Behind : List ℕ → Type 0) : Type 0 where
+pub record Spells {A : Type 0} (front : List ℕ → Parsed A) (text : A → List ℕ) (Spelled : A → Type 0)
+    (Behind : List ℕ → Type 0) : Type 0 where
   pub written : (a : A) (rest : List ℕ) → Spelled a → Behind rest → front (text a ++ rest) ≡ Found a rest
-  pub read : (a : A) (bytes rest : List ℕ) → front bytes ≡ Found a rest → Spelled a × Behind rest × (bytes ≡ text a ++ rest)
+  pub read : (a : A) (bytes rest : List ℕ) → front bytes ≡ Found a rest
+      → Spelled a × Behind rest × (bytes ≡ text a ++ rest)
   pub behind : (rest more : List ℕ) → Behind rest → Behind (rest ++ more)
-  pub cut : (bytes : List ℕ) → front bytes ≡ Missing Cut → (a : A) × (more : List ℕ) × Spelled a × (text a ≡ bytes ++ more)
+  pub cut : (bytes : List ℕ) → front bytes ≡ Missing Cut
+      → (a : A) × (more : List ℕ) × Spelled a × (text a ≡ bytes ++ more)
   pub misspelt : (bytes more : List ℕ) → front bytes ≡ Missing Misspelt → front (bytes ++ more) ≡ Missing Misspelt
 
 -- what is found is found also where more follows
@@ -26,7 +29,8 @@ found_stays {A} {front} {text} {Spelled} {Behind} s a bytes rest more is =
 -- fronts that are equal spell the same
 pub same_spelled :
     {A : Type 0} {front other : List ℕ → Parsed A} {text : A → List ℕ} {Spelled : A → Type 0} {Behind : List ℕ → Type 0}
-    → ((bytes : List ℕ) → front bytes ≡ other bytes) → Spells front text Spelled Behind → Spells other text Spelled Behind
+    → ((bytes : List ℕ) → front bytes ≡ other bytes) → Spells front text Spelled Behind
+    → Spells other text Spelled Behind
 same_spelled {A} {front} {other} {text} {Spelled} {Behind} same s =
     record {
       written = λ a rest spelled behind. sym (same (text a ++ rest)) ∙ s.written a rest spelled behind;
@@ -70,11 +74,13 @@ found_as_found {A} {B} h (Missing why) b rest is = absurd (found_is_not_missing 
 pub found_as_missing :
     {A B : Type 0} (h : A → B) (x : Parsed A) (why : Unread) → found_as h x ≡ Missing why → x ≡ Missing why
 found_as_missing {A} {B} h (Found a r) why is = absurd (found_is_not_missing (h a) r why is)
-found_as_missing {A} {B} h (Missing other) why is = (let x : Parsed B = Missing other in ap Missing (same_reason x other why refl is))
+found_as_missing {A} {B} h (Missing other) why is =
+    (let x : Parsed B = Missing other in ap Missing (same_reason x other why refl is))
 
 -- what was found next
 pub and_then_found :
-    {A B : Type 0} (x : Parsed A) (next : A → List ℕ → Parsed B) (b : B) (rest : List ℕ) → and_then x next ≡ Found b rest
+    {A B : Type 0} (x : Parsed A) (next : A → List ℕ → Parsed B) (b : B) (rest : List ℕ)
+    → and_then x next ≡ Found b rest
     → (a : A) × (between : List ℕ) × (x ≡ Found a between) × (next a between ≡ Found b rest)
 and_then_found {A} {B} (Found a r) next b rest is = (a, r, refl, is)
 and_then_found {A} {B} (Missing why) next b rest is = absurd (found_is_not_missing b rest why (sym is))
@@ -84,7 +90,8 @@ pub and_then_missing :
     {A B : Type 0} (x : Parsed A) (next : A → List ℕ → Parsed B) (why : Unread) → and_then x next ≡ Missing why
     → (x ≡ Missing why) ⊎ ((a : A) × (between : List ℕ) × (x ≡ Found a between) × (next a between ≡ Missing why))
 and_then_missing {A} {B} (Found a r) next why is = inr (a, r, refl, is)
-and_then_missing {A} {B} (Missing other) next why is = inl ((let x : Parsed B = Missing other in ap Missing (same_reason x other why refl is)))
+and_then_missing {A} {B} (Missing other) next why is =
+    inl ((let x : Parsed B = Missing other in ap Missing (same_reason x other why refl is)))
 
 -- one behind the other
 pub pairs_spelled :
@@ -138,22 +145,26 @@ pairs_spelled {A} {B} {f} {g} {t} {u} {S} {R} {N} {M} first second between some 
           (h.0, c.0),
           c.1,
           (front.0, c.2),
-          ap (λ (l : List ℕ). t h.0 ++ l) c.3 ∙ sym (append_assoc (t h.0) h.1 c.1) ∙ ap (λ (l : List ℕ). l ++ c.1) (sym front.2),
+          ap (λ (l : List ℕ). t h.0 ++ l) c.3 ∙ sym (append_assoc (t h.0) h.1 c.1)
+              ∙ ap (λ (l : List ℕ). l ++ c.1) (sym front.2),
         )
 
     misspelt_both :
         (bytes more : List ℕ)
-        → (f bytes ≡ Missing Misspelt) ⊎ ((a : A) × (r : List ℕ) × (f bytes ≡ Found a r) × (paired_next g a r ≡ Missing Misspelt))
+        → (f bytes ≡ Missing Misspelt)
+        ⊎ ((a : A) × (r : List ℕ) × (f bytes ≡ Found a r) × (paired_next g a r ≡ Missing Misspelt))
         → pair_front f g (bytes ++ more) ≡ Missing Misspelt
     misspelt_both bytes more (inl is) =
         ap (λ (x : Parsed A). and_then x (paired_next g)) (first.misspelt bytes more is)
     misspelt_both bytes more (inr h) =
         ap (λ (x : Parsed A). and_then x (paired_next g)) (found_stays first h.0 bytes h.1 more h.2)
-        ∙ ap (found_as (pair_with h.0)) (second.misspelt h.1 more (found_as_missing (pair_with h.0) (g h.1) Misspelt h.3))
+        ∙ ap (found_as (pair_with h.0))
+        (second.misspelt h.1 more (found_as_missing (pair_with h.0) (g h.1) Misspelt h.3))
 
 -- the same values under other names
 pub renamed_spelled :
-    {A B : Type 0} {f : List ℕ → Parsed A} {t : A → List ℕ} {S : A → Type 0} {N : List ℕ → Type 0} (to : A → B) (back : B → A)
+    {A B : Type 0} {f : List ℕ → Parsed A} {t : A → List ℕ} {S : A → Type 0} {N : List ℕ → Type 0}
+    (to : A → B) (back : B → A)
     → ((a : A) → back (to a) ≡ a) → ((b : B) → to (back b) ≡ b) → Spells f t S N
     → Spells (λ bytes. found_as to (f bytes)) (λ b. t (back b)) (λ b. S (back b)) N
 renamed_spelled {A} {B} {f} {t} {S} {N} to back forth around s =

@@ -28,7 +28,8 @@ next_front before between after text more is h =
 
 -- two whole pieces
 pub both_pieces :
-    (before between after text more : List ℕ) → between ≡ before ++ text → after ≡ between ++ more → after ≡ before ++ (text ++ more)
+    (before between after text more : List ℕ) → between ≡ before ++ text → after ≡ between ++ more
+    → after ≡ before ++ (text ++ more)
 both_pieces before between after text more is after_is =
     after_is ∙ ap (λ (l : List ℕ). l ++ more) is ∙ append_assoc before text more
 

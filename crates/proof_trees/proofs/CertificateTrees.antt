@@ -4,13 +4,16 @@ use Rattle.diff_graph.specs.declared.lit.Lit.{Lit}
 use Rattle.ask_core.specs.Trees.{AnswerTree, Fits, with_answer}
 use Rattle.ask_core.specs.Trees as answer
 use Rattle.proof_trees.specs.Starts.{MarkedPlan, Ask, Holds, Fails, unmarked, Comparison}
-use Rattle.proof_trees.specs.Proofs.{ProofTree, Question, End, Impossible, Lemma, Citation, Learned, proof_of, HasNoLemmas, learned, Shows}
+use Rattle.proof_trees.specs.Proofs.{ProofTree, Question, End, Impossible, Lemma, Citation, Learned, proof_of}
+use Rattle.proof_trees.specs.Proofs.{HasNoLemmas, learned, Shows}
 
 module _ {S W : Type 0} where
   -- such a tree teaches no lemma
-  pub learned-proof_of : (t : AnswerTree) (p : MarkedPlan S W) (known : List (Learned S W)) → learned (proof_of t) p known ≡ known
+  pub learned-proof_of : (t : AnswerTree) (p : MarkedPlan S W) (known : List (Learned S W))
+      → learned (proof_of t) p known ≡ known
   learned-proof_of (answer.Question t u) (Ask start l on_yes on_no) known =
-      ap (λ (k : List (Learned S W)). learned (proof_of u) on_no k) (learned-proof_of t on_yes known) ∙ learned-proof_of u on_no known
+      ap (λ (k : List (Learned S W)). learned (proof_of u) on_no k) (learned-proof_of t on_yes known)
+      ∙ learned-proof_of u on_no known
   learned-proof_of (answer.Question t u) (Holds start) known = refl
   learned-proof_of (answer.Question t u) (Fails start why) known = refl
   learned-proof_of answer.End p known = refl

@@ -66,7 +66,8 @@ learned-inner_first :
 learned-inner_first = refl
 
 -- a citation needs a cycle for each literal
-unshown-no_cycles : Shows equal (Citation 0 []) (start_plan 3) (at_most ∷ []) (record { plan = start_plan 3; literals = at_most ∷ [] } ∷ []) → ⊥
+unshown-no_cycles : Shows equal (Citation 0 []) (start_plan 3) (at_most ∷ [])
+    (record { plan = start_plan 3; literals = at_most ∷ [] } ∷ []) → ⊥
 unshown-no_cycles shows = shows
 
 -- a lemma cannot be cited within its own tree
@@ -77,12 +78,14 @@ unshown-within_itself shows = shows.1
 unshown-no_start : Shows {W = ℕ} equal (Lemma [] End End) (Holds None) [] [] → ⊥
 unshown-no_start shows = shows.0
 
-unshown-cited_at_no_start : Shows {W = ℕ} equal (Citation 0 []) (Holds None) [] (record { plan = start_plan 3; literals = [] } ∷ []) → ⊥
+unshown-cited_at_no_start : Shows {W = ℕ} equal (Citation 0 []) (Holds None) []
+    (record { plan = start_plan 3; literals = [] } ∷ []) → ⊥
 unshown-cited_at_no_start shows = shows
 
 -- a start that does not compare
 unshown-other_start :
-    Shows equal (Citation 0 ((0 ∷ 1 ∷ []) ∷ [])) (start_plan 5) (at_most ∷ []) (record { plan = start_plan 3; literals = at_most ∷ [] } ∷ []) → ⊥
+    Shows equal (Citation 0 ((0 ∷ 1 ∷ []) ∷ [])) (start_plan 5) (at_most ∷ [])
+    (record { plan = start_plan 3; literals = at_most ∷ [] } ∷ []) → ⊥
 unshown-other_start shows = shows
 
 -- one that compares under a condition, which then needs its cycle too
@@ -101,5 +104,6 @@ abbrev answered_again : answer.AnswerTree
 answered_again = answer.Question answer.End (answer.Impossible (0 ∷ 2 ∷ []))
 
 shows-without_lemmas :
-    Shows equal (proof_of (answer.Question (answer.Question answered_again answered_again) answer.End)) (two_start_plan 5) [] []
+    Shows equal (proof_of (answer.Question (answer.Question answered_again answered_again) answer.End))
+    (two_start_plan 5) [] []
 shows-without_lemmas = (((tt, (lit≤ tt, lit≤ tt, refl)), (tt, (lit≤ tt, lit≤ tt, refl))), tt)

@@ -2,7 +2,7 @@
 use Rattle.std.proofs.Common.{◌≡◌, ◌⊎◌, ℕ, inl, inr, refl, List, [], ◌∷◌, ◌++◌, Option, Some, sym, ap, subst, ◌∙◌}
 use Rattle.std.specs.Prelude.{slice_index_or}
 use Rattle.ask_core.specs.Plans.{Plan}
-use Rattle.lemma_levels.specs.declared.lemmas.Lemma.{Lemma}
+use Rattle.proof_search.specs.declared.lemmas.Lemma.{Lemma}
 use Rattle.proof_search.specs.Owning.{AreOwnLemmas}
 use Rattle.proof_trees.specs.Starts.{unmarked}
 use Rattle.proof_trees.specs.Starters.{Starts, KeepsStarts, IsWhole}
@@ -15,7 +15,8 @@ use Rattle.proof_writer.specs.Nodes.{IsPresent, Waits, HasNode, AreOwnNodes, Has
 module _ {N : Type 0} (n : N) where
   -- a node that waits among one more waits there, or is that of what came
   waits_before :
-      (parts : List (WriterTask N)) (one : WriterTask N) → Waits n (parts ++ one ∷ []) → Waits n parts ⊎ Waits n (one ∷ [])
+      (parts : List (WriterTask N)) (one : WriterTask N) → Waits n (parts ++ one ∷ [])
+      → Waits n parts ⊎ Waits n (one ∷ [])
   waits_before [] one waits = inr waits
   waits_before (Part p ∷ parts) one (inl is) = inl (inl is)
   waits_before (Part p ∷ parts) one (inr waits) =
@@ -42,7 +43,8 @@ module _ {N : Type 0} (n : N) where
 
   -- after a place, a cycle or a lemma was pushed
   pub waits_part :
-      (old new : List (WriterTask N)) (p : TreePlace N) → new ≡ old ++ Part p ∷ [] → Waits n new → (p.node ≡ n) ⊎ Waits n old
+      (old new : List (WriterTask N)) (p : TreePlace N) → new ≡ old ++ Part p ∷ [] → Waits n new
+      → (p.node ≡ n) ⊎ Waits n old
   waits_part old new p is waits =
       elim (waits_before old (Part p) (subst (λ (parts : List (WriterTask N)). Waits n parts) is waits))
       as (λ x. (p.node ≡ n) ⊎ Waits n old) [
@@ -64,7 +66,8 @@ module _ {N : Type 0} (n : N) where
 
 -- what is pushed on the same parts
 pub pushed_on :
-    {N : Type 0} (old between parts : List (WriterTask N)) (one : WriterTask N) → between ≡ old → parts ≡ between ++ one ∷ []
+    {N : Type 0} (old between parts : List (WriterTask N)) (one : WriterTask N) → between ≡ old
+    → parts ≡ between ++ one ∷ []
     → parts ≡ old ++ one ∷ []
 pushed_on old between parts one same pushed = pushed ∙ ap (λ (items : List (WriterTask _)). items ++ one ∷ []) same
 
@@ -84,7 +87,8 @@ module _ {N : Type 0} (old : PlanWalk N) where
   others_taken parts p popped n (inl here) =
       inr (subst (λ (items : List (WriterTask N)). Waits n items) (sym popped) (waits_last n parts p here))
   others_taken parts p popped n (inr waits) =
-      inr (subst (λ (items : List (WriterTask N)). Waits n items) (sym popped) (waits_among n parts (Part p ∷ []) waits))
+      inr (subst (λ (items : List (WriterTask N)). Waits n items) (sym popped)
+      (waits_among n parts (Part p ∷ []) waits))
 
   -- the present place is closed
   pub others_closed :
@@ -105,7 +109,8 @@ module _ {N : Type 0} (old : PlanWalk N) where
         (count : ℕ) → node ≡ on_yes → parts ≡ old.waiting.items ++ Cycle count ∷ [] → (n : N)
         → (node ≡ n) ⊎ Waits n parts → (on_yes ≡ n) ⊎ ((on_no ≡ n) ⊎ HasNode n old)
     parts_of_yes count is pushed n (inl here) = inl (sym is ∙ here)
-    parts_of_yes count is pushed n (inr waits) = inr (inr (inr (waits_cycle n old.waiting.items parts count pushed waits)))
+    parts_of_yes count is pushed n (inr waits) =
+        inr (inr (inr (waits_cycle n old.waiting.items parts count pushed waits)))
 
     pub parts_of_both :
         (p : TreePlace N) → node ≡ on_yes → p.node ≡ on_no → parts ≡ old.waiting.items ++ Part p ∷ [] → (n : N)

@@ -1,6 +1,6 @@
 -- What is known of the open places after a question.
-use Rattle.std.proofs.Common.{◌≡◌, ℕ, ◌-◌, ◌<◌, true, false, List, [], ◌∷◌, ◌++◌, length, set, get_or, reverse, Option, Some, None, arith, refl, sym, ap, ◌∙◌}
-use Rattle.std.proofs.Common.{subst}
+use Rattle.std.proofs.Common.{◌≡◌, ℕ, ◌-◌, ◌<◌, true, false, List, [], ◌∷◌, ◌++◌, length, set, get_or, reverse, Option}
+use Rattle.std.proofs.Common.{Some, None, arith, refl, sym, ap, ◌∙◌, subst}
 use Rattle.std.proofs.lemmas.List.{reverse-append, get_or_push, get_or_default, length-append}
 use Rattle.diff_graph.specs.declared.lit.Lit.{Lit}
 use Rattle.diff_graph.specs.Literals.{answered_of}
@@ -29,7 +29,8 @@ set-last (z ∷ front) x y = ap (λ rest. z ∷ rest) (set-last front x y)
 
 -- the element that is read at the last place
 pub last_at :
-    (tables : List Rows) (rows : Rows) (place : ℕ) → 0 < length tables → place ≡ length tables - 1 → get_or tables place rows ≡ rows
+    (tables : List Rows) (rows : Rows) (place : ℕ) → 0 < length tables → place ≡ length tables - 1
+    → get_or tables place rows ≡ rows
     → get_or tables (length tables - 1) [] ≡ rows
 last_at tables rows place some is read =
     let inside : length tables - 1 < length tables = omega arith in
@@ -49,7 +50,8 @@ module _ (l : Lit) (number : ℕ) (numbers : List ℕ) (tables : List Rows) (som
       let is : tables ≡ found.0 ++ last ∷ [] = found.1.1 in
       let count : length tables - 1 ≡ length found.0 = omega (arith, ap length is, length-append found.0 (last ∷ [])) in
       let at_last : last_rows tables ≡ last =
-      ap (λ (xs : List Rows). get_or xs (length tables - 1) []) is ∙ get_or_push found.0 last [] (length tables - 1) (sym count) in
+      ap (λ (xs : List Rows). get_or xs (length tables - 1) []) is
+      ∙ get_or_push found.0 last [] (length tables - 1) (sym count) in
       is ∙ ap (λ (rows : Rows). found.0 ++ rows ∷ []) (sym at_last)
 
   -- written to, they are the same and then the new one
@@ -63,7 +65,8 @@ module _ (l : Lit) (number : ℕ) (numbers : List ℕ) (tables : List Rows) (som
   -- what is known of the first place and of the others
   known_at :
       (w : List Lit) (ws : List (List Lit)) (cycles : List (Option (List ℕ)))
-      → AreJudged (w ∷ ws) (None ∷ cycles) (reverse tables) → IsTableOf w (last_rows tables) × AreJudged ws cycles (reverse front)
+      → AreJudged (w ∷ ws) (None ∷ cycles) (reverse tables)
+      → IsTableOf w (last_rows tables) × AreJudged ws cycles (reverse front)
   known_at w ws cycles judged =
       subst (λ (xs : List Rows). AreJudged (w ∷ ws) (None ∷ cycles) xs)
       (ap reverse whole ∙ reverse-push front (last_rows tables)) judged
@@ -92,8 +95,11 @@ module _ (l : Lit) (number : ℕ) (numbers : List ℕ) (tables : List Rows) (som
   JudgesSides-only_yes cycles adds closes w ws long judged =
       let known = known_at w ws cycles judged in
       subst (λ (xs : List Rows).
-      AreJudged (with_answer w l true ∷ with_answer w l false ∷ ws) (None ∷ Some numbers ∷ cycles) xs) (sym shown_same)
-      (adds w long known.0, (IsCycleAmong-closed w l false number (last_rows tables) numbers long closes known.0, known.1))
+      AreJudged (with_answer w l true ∷ with_answer w l false ∷ ws) (None ∷ Some numbers ∷ cycles) xs)
+      (sym shown_same) (
+        adds w long known.0,
+        (IsCycleAmong-closed w l false number (last_rows tables) numbers long closes known.0, known.1),
+      )
 
   pub JudgesSides-only_no :
       (cycles : List (Option (List ℕ))) → AddsAnswer number l false (last_rows tables) (last_rows tables)
@@ -102,5 +108,8 @@ module _ (l : Lit) (number : ℕ) (numbers : List ℕ) (tables : List Rows) (som
   JudgesSides-only_no cycles adds closes w ws long judged =
       let known = known_at w ws cycles judged in
       subst (λ (xs : List Rows).
-      AreJudged (with_answer w l true ∷ with_answer w l false ∷ ws) (Some numbers ∷ None ∷ cycles) xs) (sym shown_same)
-      (IsCycleAmong-closed w l true number (last_rows tables) numbers long closes known.0, (adds w long known.0, known.1))
+      AreJudged (with_answer w l true ∷ with_answer w l false ∷ ws) (Some numbers ∷ None ∷ cycles) xs)
+      (sym shown_same) (
+        IsCycleAmong-closed w l true number (last_rows tables) numbers long closes known.0,
+        (adds w long known.0, known.1),
+      )

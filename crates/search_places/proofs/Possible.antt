@@ -1,16 +1,18 @@
 -- Whether some integers meet answers, by a table or by a cycle, and how a table gets one more answer.
-use Rattle.std.proofs.Common.{◌≡◌, ◌↔◌, ℕ, suc, ◌+◌, ◌-◌, ◌≤◌, ℤ, pos, negsuc, ◌-ℤ◌, ◌+ℤ◌, ◌≤ℤ◌, Bool, true, false, List, [], ◌∷◌, ◌++◌, length, Option}
-use Rattle.std.proofs.Common.{None, Some, slice_get, Ok, IsTrue, arith, refl, sym, ap, ◌∙◌, subst, inl, inr}
+use Rattle.std.proofs.Common.{◌≡◌, ◌↔◌, ℕ, suc, ◌+◌, ◌-◌, ◌≤◌, ℤ, pos, negsuc, ◌-ℤ◌, ◌+ℤ◌, ◌≤ℤ◌, Bool, true, false}
+use Rattle.std.proofs.Common.{List, [], ◌∷◌, ◌++◌, length, Option, None, Some, slice_get, Ok, IsTrue, arith, refl, sym}
+use Rattle.std.proofs.Common.{ap, ◌∙◌, subst, inl, inr}
 use Rattle.std.proofs.lemmas.Int.{ints}
 use Rattle.diff_graph.specs.declared.lit.Lit.{Lit}
 use Rattle.diff_tables.specs.declared.hop.Hop.{Hop}
 use Rattle.diff_graph.specs.Literals.{AreMet, IsPossible, answered_of}
 use Rattle.diff_graph.specs.Cycles.{picked, pick_verdict}
 use Rattle.diff_graph.specs.Limits.{IsNamed}
-use Rattle.diff_tables.specs.Tables.{Numbered, literals_of, numbered_from, IsAmong, AreAmong, kept_of, StandsFor, IsPossibleWith, IsCycleOf}
+use Rattle.diff_tables.specs.Tables.{Numbered, literals_of, numbered_from, IsAmong, AreAmong, kept_of, StandsFor}
+use Rattle.diff_tables.specs.Tables.{IsPossibleWith, IsCycleOf}
 use Rattle.diff_tables.specs.Steps.{keeps, leaves_room}
 use Rattle.ask_core.specs.Trees.{IsCycleAmong, with_answer}
-use Rattle.search_places.specs.declared.split.TheConstants.{MAX_NAMES}
+use Rattle.ask_core.specs.declared.asker.TheConstants.{MAX_NAMES}
 use Rattle.diff_bounds.specs.Kept.{Rows}
 use Rattle.search_places.specs.Sides.{IsTableOf, AddsAnswer, ClosesCycle}
 
@@ -28,7 +30,8 @@ numbered_from-push place [] l =
 numbered_from-push place (m ∷ ls) l =
     let e : place + 1 + length ls ≡ place + suc (length ls) = omega arith in
     ap (λ rest. record { number = place; lit = m } ∷ rest)
-    (numbered_from-push (place + 1) ls l ∙ ap (λ n. numbered_from (place + 1) ls ++ record { number = n; lit = l } ∷ []) e)
+    (numbered_from-push (place + 1) ls l
+    ∙ ap (λ n. numbered_from (place + 1) ls ++ record { number = n; lit = l } ∷ []) e)
 
 -- one more answer under its place
 pub numbered_from-next :
@@ -68,7 +71,8 @@ impossible_by_cycle never w picks cycle possible = never possible.0 w picks cycl
 -- the table that stands for the answers with one more at their end
 pub IsTableOf-push :
     (w : List Lit) (l : Lit) (number : ℕ) (rows : Rows)
-    → length w ≡ number → StandsFor MAX_NAMES (kept_of rows) (numbered_from 0 w ++ record { number = number; lit = l } ∷ [])
+    → length w ≡ number
+    → StandsFor MAX_NAMES (kept_of rows) (numbered_from 0 w ++ record { number = number; lit = l } ∷ [])
     → IsTableOf (w ++ l ∷ []) rows
 IsTableOf-push w l number rows long stands =
     subst (λ (ps : List Numbered). StandsFor MAX_NAMES (kept_of rows) ps) (numbered_from-next w l number long) stands
@@ -80,7 +84,8 @@ pub IsTableOf-answered :
     → StandsFor MAX_NAMES (kept_of new) (ps ++ record { number = number; lit = given } ∷ []))
     → IsTableOf w rows → IsTableOf (w ++ l ∷ []) new
 IsTableOf-answered w l given number rows new is long adds stands =
-    subst (λ (x : Lit). IsTableOf (w ++ x ∷ []) new) is (IsTableOf-push w given number new long (adds (numbered_from 0 w) stands))
+    subst (λ (x : Lit). IsTableOf (w ++ x ∷ []) new) is
+    (IsTableOf-push w given number new long (adds (numbered_from 0 w) stands))
 
 -- where a number of the list stands
 place_of :
@@ -94,12 +99,14 @@ place_of place (m ∷ ls) number l among =
           let e : number - place ≡ 0 = omega arith in
           (omega arith, rw (e, here.1) refl))
       | inr there ↦
-          (let rest : (place + 1 ≤ number) × (slice_get ls (number - (place + 1)) ≡ Some l) = place_of (place + 1) ls number l there in
+          (let rest : (place + 1 ≤ number) × (slice_get ls (number - (place + 1)) ≡ Some l) =
+          place_of (place + 1) ls number l there in
           let e : number - place ≡ suc (number - (place + 1)) = omega (arith, rest.0) in
           (omega (arith, rest.0), rw e rest.1))
     ]
 
-pub got_at : (ls : List Lit) (number : ℕ) (l : Lit) → IsAmong (numbered_from 0 ls) number l → slice_get ls number ≡ Some l
+pub got_at : (ls : List Lit) (number : ℕ) (l : Lit) → IsAmong (numbered_from 0 ls) number l
+    → slice_get ls number ≡ Some l
 got_at ls number l among =
     let e : number - 0 ≡ number = omega arith in
     subst (λ (i : ℕ). slice_get ls i ≡ Some l) e (place_of 0 ls number l among).1
@@ -123,7 +130,8 @@ pub IsCycleAmong-push :
     → IsCycleOf MAX_NAMES (numbered_from 0 w ++ record { number = number; lit = l } ∷ []) picks
     → IsCycleAmong (w ++ l ∷ []) picks
 IsCycleAmong-push w l number picks long cycle =
-    let named = subst (λ (ps : List Numbered). AreAmong ps picks cycle.literals) (numbered_from-next w l number long) cycle.named in
+    let named = subst (λ (ps : List Numbered). AreAmong ps picks cycle.literals)
+    (numbered_from-next w l number long) cycle.named in
     let got : picked (w ++ l ∷ []) picks ≡ Some cycle.literals =
     picked-from_among (w ++ l ∷ []) (numbered_from 0 (w ++ l ∷ [])) (got_at (w ++ l ∷ [])) picks cycle.literals named in
     let ok : pick_verdict (w ++ l ∷ []) picks ≡ Ok tt = rw got cycle.negative in
@@ -132,7 +140,8 @@ IsCycleAmong-push w l number picks long cycle =
 -- a cycle that an answer closes is one among the answers with it
 pub IsCycleAmong-closed :
     (w : List Lit) (l : Lit) (said : Bool) (number : ℕ) (rows : Rows) (picks : List ℕ) → length w ≡ number
-    → ClosesCycle (kept_of rows) number (answered_of l said) picks → IsTableOf w rows → IsCycleAmong (with_answer w l said) picks
+    → ClosesCycle (kept_of rows) number (answered_of l said) picks → IsTableOf w rows
+    → IsCycleAmong (with_answer w l said) picks
 IsCycleAmong-closed w l said number rows picks long closes stands =
     IsCycleAmong-push w (answered_of l said) number picks long (closes (numbered_from 0 w) stands)
 

@@ -1,12 +1,14 @@
 -- A table is copied behind itself, and then both are written to.
 use Rattle.std.proofs.Common.{◌≡◌, ℕ, ◌+◌, ◌<◌, List, [], ◌∷◌, ◌++◌, length, set, get_or, arith, refl, sym, ap, ◌∙◌}
 use Rattle.std.proofs.Common.{subst}
-use Rattle.std.proofs.lemmas.List.{get_or_append_left, get_or_push, get_or_read_under, length-append, length-set, set-append_left}
+use Rattle.std.proofs.lemmas.List.{get_or_append_left, get_or_push, get_or_read_under, length-append, length-set}
+use Rattle.std.proofs.lemmas.List.{set-append_left}
 use Rattle.std.proofs.Math.Seq.{set-append_seam}
 
 module _ {X : Type 0} (before pushed : List X) (last : ℕ) (x d : X) (size : last + 1 ≡ length before) where
   -- what is read at the old place is what stood there
-  pub first_read : (first : X) → pushed ≡ before ++ x ∷ [] → first ≡ get_or pushed last first → first ≡ get_or before last d
+  pub first_read : (first : X) → pushed ≡ before ++ x ∷ [] → first ≡ get_or pushed last first
+      → first ≡ get_or before last d
   first_read first is read =
       let within : last < length pushed = omega (arith, size, ap length is, length-append before (x ∷ [])) in
       get_or_read_under pushed last (length pushed) first d read within refl
@@ -36,8 +38,9 @@ module _ {X : Type 0} (before pushed : List X) (last : ℕ) (x d : X) (size : la
 
   -- both are written to
   pub both_written :
-      (of_no of_yes : X) → pushed ≡ before ++ x ∷ [] → set (set pushed last of_no) (last + 1) of_yes ≡ set before last of_no ++ of_yes ∷ []
+      (of_no of_yes : X) → pushed ≡ before ++ x ∷ []
+      → set (set pushed last of_no) (last + 1) of_yes ≡ set before last of_no ++ of_yes ∷ []
   both_written of_no of_yes is =
       ap (λ (l : List X). set l (last + 1) of_yes) (first_written of_no is)
-      ∙ subst (λ (n : ℕ). set (set before last of_no ++ x ∷ []) n of_yes ≡ set before last of_no ++ of_yes ∷ []) (long of_no)
-      (set-append_seam (set before last of_no) x [] of_yes)
+      ∙ subst (λ (n : ℕ). set (set before last of_no ++ x ∷ []) n of_yes ≡ set before last of_no ++ of_yes ∷ [])
+      (long of_no) (set-append_seam (set before last of_no) x [] of_yes)

@@ -10,7 +10,7 @@ use Rattle.diff_tables.specs.Steps.{numbers_along}
 use Rattle.diff_tables.specs.Tables.{Numbered, StandsFor, IsCycleOf, kept_of, numbered_from}
 use Rattle.diff_bounds.specs.Kept.{Rows, has_room}
 use Rattle.ask_core.specs.Trees.{IsCycleAmong, with_answer}
-use Rattle.search_places.specs.declared.split.TheConstants.{MAX_NAMES}
+use Rattle.ask_core.specs.declared.asker.TheConstants.{MAX_NAMES}
 use Rattle.search_places.specs.declared.split.Room.{Room}
 use Rattle.search_places.specs.declared.split.Room.TheVariants.{Both, OnlyYes, OnlyNo}
 

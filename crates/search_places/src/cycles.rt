@@ -4,12 +4,11 @@ ghost use Rattle.std.specs.Prelude.{IfOk, OnOk};
 ghost use Rattle.diff_graph.specs.Limits.{IsNamed, IsSmall};
 ghost use Rattle.diff_tables.specs.Tables.{kept_of};
 ghost use Rattle.diff_bounds.specs.Kept.{has_room};
-ghost use Rattle.search_places.specs.declared.split.TheConstants.{MAX_NAMES};
+ghost use Rattle.ask_core.specs.declared.asker.TheConstants.{MAX_NAMES};
 ghost use Rattle.search_places.specs.Sides.{ClosesCycle, StandsForSome};
 ghost use Rattle.search_places.specs.Waiting.{IsTakenCycle};
 
-use crate::split::MAX_NAMES;
-use ask_core::NoMemory;
+use ask_core::{MAX_NAMES, NoMemory};
 use cert_text::Tree;
 use diff_bounds::Bounds;
 use diff_graph::Lit;

@@ -10,6 +10,7 @@ mod cycles;
 mod search;
 mod split;
 
+pub use ask_core::MAX_NAMES;
 pub use cycles::Cycles;
 pub use search::PlanSearch;
-pub use split::{MAX_NAMES, Room, excludes_yes, put_yes};
+pub use split::{Room, excludes_yes, put_yes};

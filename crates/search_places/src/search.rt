@@ -6,13 +6,13 @@ ghost use Rattle.diff_tables.specs.Tables.{StandsFor, kept_of};
 ghost use Rattle.ask_core.specs.Paths.{first_answers};
 ghost use Rattle.ask_core.specs.declared.tree.Tok.TheVariants.{Holds};
 ghost use Rattle.cert_text.specs.TreeTexts.{with_token};
-ghost use Rattle.search_places.specs.declared.split.TheConstants.{MAX_NAMES};
+ghost use Rattle.ask_core.specs.declared.asker.TheConstants.{MAX_NAMES};
 ghost use Rattle.search_places.specs.Sides.{IsAsked, StandsForSome, last_rows};
 ghost use Rattle.search_places.specs.Changes.{HasAsked, HasClosed, known_of};
 
 use crate::cycles::Cycles;
-use crate::split::{MAX_NAMES, Room, close_yes, judge_sides, wait_impossible};
-use ask_core::{NoMemory, Path};
+use crate::split::{Room, close_yes, judge_sides, wait_impossible};
+use ask_core::{MAX_NAMES, NoMemory, Path};
 use cert_text::Tree;
 use diff_bounds::Bounds;
 use diff_graph::Lit;

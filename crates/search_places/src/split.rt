@@ -5,6 +5,7 @@ ghost use Rattle.diff_graph.specs.Limits.{IsNamed};
 ghost use Rattle.diff_tables.specs.Tables.{kept_of};
 ghost use Rattle.diff_bounds.specs.Kept.{has_room};
 ghost use Rattle.search_places.specs.Sides.{AddsAnswer, ClosesCycle, HasRoomForSides, HasSides, HasSplit, IsAsked};
+ghost use Rattle.ask_core.specs.declared.asker.TheConstants.{MAX_NAMES};
 ghost use Rattle.ask_core.specs.declared.picks.TheConstants.{MAX_PICKS};
 ghost use Rattle.ask_core.specs.declared.tree.Tok.TheVariants.{Ask, Cycle};
 ghost use Rattle.cert_text.specs.TreeTexts.{with_token};
@@ -12,14 +13,11 @@ ghost use Rattle.search_places.specs.Sides.{StandsForSome, cycle_along, last_row
 
 use crate::chain::Chain;
 use crate::cycles::Cycles;
-use ask_core::NoMemory;
+use ask_core::{MAX_NAMES, NoMemory};
 use cert_text::Tree;
 use diff_bounds::Bounds;
 use diff_graph::{Lit, answered};
 use diff_tables::{tables_stand_for_what_is_added, tables_tell_what_is_possible};
-
-/// The most names of an asker whose plan is searched.
-pub const MAX_NAMES: usize = 12;
 
 /// Which sides of a question there is room for.
 #[derive(Clone, Copy, PartialEq, Eq)]

@@ -1,7 +1,8 @@
 -- The obligations of a list, one after another.
 use Rattle.std.specs.List.{list_all}
 use Rattle.std.specs.Prelude.{◌&&◌}
-use Rattle.std.proofs.Common.{◌≡◌, ℕ, zero, suc, ◌+◌, ◌<◌, Bool, true, false, List, [], ◌∷◌, length, drop, get_or, add-one, arith, refl, subst}
+use Rattle.std.proofs.Common.{◌≡◌, ℕ, zero, suc, ◌+◌, ◌<◌, Bool, true, false, List, [], ◌∷◌, length, drop, get_or}
+use Rattle.std.proofs.Common.{add-one, arith, refl, subst}
 use Rattle.std.proofs.Math.Seq.{drop-cons}
 use Rattle.fn_rules.specs.declared.function.ObName.{ObName}
 use Rattle.cert_text.specs.Places.{PartPlace}
@@ -20,7 +21,8 @@ all_at p (name ∷ names) zero d all within = (both_true (p name) (list_all p na
 all_at p (name ∷ names) (suc i) d all within =
     all_at p names i d (both_true (p name) (list_all p names) all).1 (omega arith)
 
-cons_at : (names : List ObName) (i : ℕ) (d : ObName) → i < length names → drop i names ≡ get_or names i d ∷ drop (i + 1) names
+cons_at : (names : List ObName) (i : ℕ) (d : ObName) → i < length names
+    → drop i names ≡ get_or names i d ∷ drop (i + 1) names
 cons_at names i d within = rw (add-one, drop-cons names i d)
 
 pub line_at :

@@ -12,9 +12,9 @@ use Rattle.refusals.specs.declared.refusal.JudgeError.{JudgeError}
 use Rattle.ot_sections.specs.Parts.{IsJudged, branches_behind}
 use Rattle.ot_outside.specs.declared.feed.Feed.{Ghosts}
 use Rattle.ot_sections.specs.Feeding.{Fed, Yields}
-use Rattle.ot_sections.specs.Stands.{Came, IsJudgedBehind, IsMisspeltBehind, IsOver, IsRefusedAnyway, IsRefusedBehind, StandLeads, LeadsAnyway, opened}
-use Rattle.ot_sections.specs.Stands.{reader_offset_of}
-use Rattle.ot_sections.specs.Stands.{reader_place_of, stand, tree_with}
+use Rattle.ot_sections.specs.Stands.{Came, IsJudgedBehind, IsMisspeltBehind, IsOver, IsRefusedAnyway, IsRefusedBehind}
+use Rattle.ot_sections.specs.Stands.{StandLeads, LeadsAnyway, opened, reader_offset_of, reader_place_of, stand}
+use Rattle.ot_sections.specs.Stands.{tree_with}
 use Rattle.ot_sections.specs.Sections.{IsLineWith}
 use Rattle.ot_sections.proofs.Fitting.{last_line_fits}
 use Rattle.ot_sections.proofs.Leading.{leads_on, misspelt_refused, part_leads, refused_through}
@@ -26,7 +26,8 @@ IsTreeWith obs count (Start tp1 tp2) = ⊥
 IsTreeWith obs count (Line came names) = ⊥
 IsTreeWith obs count Finish = ⊥
 
-pub closed_tree : (obs : List ObName) (count : ℕ) (place : PartPlace) → IsTreeWith obs count place → IsTreeWith obs 0 (tree_with 0 place)
+pub closed_tree : (obs : List ObName) (count : ℕ) (place : PartPlace) → IsTreeWith obs count place
+    → IsTreeWith obs 0 (tree_with 0 place)
 closed_tree obs count (Tree came names branches) tree = (tree.0, refl)
 closed_tree obs count (Start tp1 tp2) tree = tree
 closed_tree obs count (Line came names) tree = tree
@@ -34,9 +35,11 @@ closed_tree obs count Finish tree = tree
 
 -- the line of an obligation opens its tree
 line_opens_tree :
-    (ob : ObName) (others : List ObName) (place : PartPlace) (p : Part) → IsLineWith (ob ∷ others) place → Stands place p
+    (ob : ObName) (others : List ObName) (place : PartPlace) (p : Part)
+    → IsLineWith (ob ∷ others) place → Stands place p
     → IsTreeWith others 1 (place_after place p)
-line_opens_tree ob others (Line came (name ∷ names)) (part.Ob n) line stands = let rest : names ≡ others = cc in (rest, refl)
+line_opens_tree ob others (Line came (name ∷ names)) (part.Ob n) line stands =
+    let rest : names ≡ others = cc in (rest, refl)
 line_opens_tree ob others (Line came (name ∷ names)) p line stands = absurd stands
 line_opens_tree ob others (Line came []) p line stands = absurd (cc)
 line_opens_tree ob others (Start tp1 tp2) p line stands = absurd line
@@ -56,7 +59,8 @@ newline_closes others Finish p tree stands = absurd tree
 
 module _ {W : Type 0} (plan : ObName → Plan W) where
   line_branches :
-      (ob : ObName) (others : List ObName) (place : PartPlace) (offset : ℕ) (p : Part) → IsLineWith (ob ∷ others) place → Stands place p
+      (ob : ObName) (others : List ObName) (place : PartPlace) (offset : ℕ) (p : Part)
+      → IsLineWith (ob ∷ others) place → Stands place p
       → branches_behind plan (record { place = place; offset = offset; branches = [] }) p ≡ Ok (opened (plan ob))
   line_branches ob others (Line came (name ∷ names)) offset (part.Ob n) line stands =
       let first : name ≡ ob = cc in ap (λ (x : ObName). Ok (opened (plan x))) first
@@ -69,7 +73,8 @@ module _ {W : Type 0} (plan : ObName → Plan W) where
   newline_branches :
       (others : List ObName) (place : PartPlace) (offset : ℕ) (p : Part) → IsTreeWith others 0 place → Stands place p
       → branches_behind plan (record { place = place; offset = offset; branches = [] }) p ≡ Ok []
-  newline_branches others (Tree came names branches) offset (part.Tok t) tree stands = absurd (omega (arith, tree.1, stands.0))
+  newline_branches others (Tree came names branches) offset (part.Tok t) tree stands =
+      absurd (omega (arith, tree.1, stands.0))
   newline_branches others (Tree came names branches) offset part.LineEnd tree stands = refl
   newline_branches others (Tree came names branches) offset p tree stands = absurd stands
   newline_branches others (Start tp1 tp2) offset p tree stands = absurd tree
@@ -77,7 +82,8 @@ module _ {W : Type 0} (plan : ObName → Plan W) where
   newline_branches others Finish offset p tree stands = absurd tree
 
   -- an obligation's line comes
-  pub record LineCame {F : Type 0} (feeds : Ghosts F) (ob : ObName) (others : List ObName) (was first : Fed F) (line : Item) : Type 0 where
+  pub record LineCame {F : Type 0} (feeds : Ghosts F) (ob : ObName) (others : List ObName) (was first : Fed F)
+      (line : Item) : Type 0 where
     pub at : IsLineWith (ob ∷ others) (reader_place_of was.reader)
     pub came : Came feeds was first line
 
@@ -92,7 +98,8 @@ module _ {W : Type 0} (plan : ObName → Plan W) where
     pub line_leads : StandLeads feeds plan (stand was []) (stand first (opened (plan ob)))
     line_leads =
         part_leads feeds plan was first line [] (opened (plan ob)) begun.came
-        (line_branches ob others (reader_place_of was.reader) (reader_offset_of was.reader) line.part begun.at begun.came.part.stands)
+        (line_branches ob others (reader_place_of was.reader) (reader_offset_of was.reader) line.part
+        begun.at begun.came.part.stands)
 
     pub tree_refused :
         (now : F) (e : JudgeError) → IsRefusedAnyway feeds (stand first (opened (plan ob))) now e
@@ -104,14 +111,18 @@ module _ {W : Type 0} (plan : ObName → Plan W) where
         (closed : reader_place_of second.reader ≡ tree_with 0 (reader_place_of first.reader)) where
       pub tree_ends : IsTreeWith others 0 (reader_place_of second.reader)
       tree_ends =
-          subst (λ (p : PartPlace). IsTreeWith others 0 p) (sym closed) (closed_tree others 1 (reader_place_of first.reader) tree_begins)
+          subst (λ (p : PartPlace). IsTreeWith others 0 p) (sym closed)
+          (closed_tree others 1 (reader_place_of first.reader) tree_begins)
 
       pub tree_leads : StandLeads feeds plan (stand was []) (stand second [])
-      tree_leads = leads_on feeds plan (stand was []) (stand first (opened (plan ob))) (stand second []) line_leads (judged plan)
+      tree_leads =
+          leads_on feeds plan (stand was []) (stand first (opened (plan ob))) (stand second []) line_leads (judged plan)
 
-      pub newline_refused : (now : F) (e : JudgeError) → IsMisspeltBehind feeds second now e → IsRefusedBehind feeds plan (stand was []) now e
+      pub newline_refused : (now : F) (e : JudgeError) → IsMisspeltBehind feeds second now e
+          → IsRefusedBehind feeds plan (stand was []) now e
       newline_refused now e misspelt =
-          refused_through feeds plan (stand was []) (stand second []) now e tree_leads (misspelt_refused feeds plan second [] now e misspelt)
+          refused_through feeds plan (stand was []) (stand second []) now e tree_leads
+          (misspelt_refused feeds plan second [] now e misspelt)
 
       module _ (newline : Item) (now : Fed F) (ended : Came feeds second now newline) where
         pub section_behind : IsLineWith others (reader_place_of now.reader)
@@ -123,7 +134,8 @@ module _ {W : Type 0} (plan : ObName → Plan W) where
         section_leads =
             leads_on feeds plan (stand was []) (stand second []) (stand now []) tree_leads
             (part_leads feeds plan second now newline [] [] ended
-            (newline_branches others (reader_place_of second.reader) (reader_offset_of second.reader) newline.part tree_ends ended.part.stands))
+            (newline_branches others (reader_place_of second.reader) (reader_offset_of second.reader) newline.part
+            tree_ends ended.part.stands))
 
 -- the text of the last line
 end_is : (place : PartPlace) (p : Part) → IsLineWith [] place → Stands place p → part_text place p ≡ end_text
@@ -139,14 +151,15 @@ last_judged :
     {W : Type 0} (plan : ObName → Plan W) (place : PartPlace) (offset : ℕ) → IsLineWith [] place
     → IsJudged plan (Ok tt) (record { place = place; offset = offset; branches = [] }) end_text
 last_judged plan (Line came names) offset line =
-    subst (λ (n : List ObName). IsJudged plan (Ok tt) (record { place = Line came n; offset = offset; branches = [] }) end_text)
-    (sym line) (last_line_fits plan came offset)
+    subst (λ (n : List ObName). IsJudged plan (Ok tt) (record { place = Line came n; offset = offset; branches = [] })
+    end_text) (sym line) (last_line_fits plan came offset)
 last_judged plan (Start tp1 tp2) offset line = absurd line
 last_judged plan (Tree came names branches) offset line = absurd line
 last_judged plan Finish offset line = absurd line
 
 end_branches :
-    {W : Type 0} (plan : ObName → Plan W) (place : PartPlace) (offset : ℕ) (p : Part) → IsLineWith [] place → Stands place p
+    {W : Type 0} (plan : ObName → Plan W) (place : PartPlace) (offset : ℕ) (p : Part)
+    → IsLineWith [] place → Stands place p
     → branches_behind plan (record { place = place; offset = offset; branches = [] }) p ≡ Ok []
 end_branches plan (Line came []) offset part.End line stands = refl
 end_branches plan (Line came []) offset p line stands = absurd stands
@@ -162,12 +175,13 @@ module _ {F W : Type 0} (feeds : Ghosts F) (plan : ObName → Plan W) (was now :
   end_judged last over all have = (
     end_text,
     subst (λ (l : List ℕ). Yields feeds was.feed all l)
-        (append-nil (part_text (reader_place_of was.reader) item.part) ∙ end_is (reader_place_of was.reader) item.part at came.part.stands)
-        (came.bytes all [] (over all have)),
+        (append-nil (part_text (reader_place_of was.reader) item.part)
+        ∙ end_is (reader_place_of was.reader) item.part at came.part.stands) (came.bytes all [] (over all have)),
     last_judged plan (reader_place_of was.reader) (reader_offset_of was.reader) at,
   )
 
-  pub trailing_refused : (last : F) (e : JudgeError) → IsMisspeltBehind feeds now last e → IsRefusedBehind feeds plan (stand was []) last e
+  pub trailing_refused : (last : F) (e : JudgeError) → IsMisspeltBehind feeds now last e
+      → IsRefusedBehind feeds plan (stand was []) last e
   trailing_refused last e misspelt =
       refused_through feeds plan (stand was []) (stand now []) last e
       (part_leads feeds plan was now item [] [] came

@@ -23,13 +23,15 @@ AllAgree v (o ∷ os) (r ∷ rs) = Agree v o r × AllAgree v os rs
 module _ (v : ℕ → ℤ) (f : Function) where
   -- what is left of a pair after results that agree ends alike
   pair_alike :
-      (a b : SymOp) (got found : List SymOp) → AllAgree v got found → EndAlike v (ask_pair_after f a b got) (ask_pair_after f a b found)
+      (a b : SymOp) (got found : List SymOp) → AllAgree v got found
+      → EndAlike v (ask_pair_after f a b got) (ask_pair_after f a b found)
   unfolding ask_pair_after
   pair_alike a b [] [] h = refl
   pair_alike a b [] (p ∷ found) h = absurd h
   pair_alike a b (p ∷ got) [] h = absurd h
   pair_alike a b (p ∷ []) (r ∷ []) h =
-      transform_alike v f a b a b _ _ (Agree-same v a) (Agree-same v b) (λ q s agree. ways_alike v f.head.mode a b p q r s h.0 agree)
+      transform_alike v f a b a b _ _ (Agree-same v a) (Agree-same v b)
+      (λ q s agree. ways_alike v f.head.mode a b p q r s h.0 agree)
   pair_alike a b (p ∷ []) (r ∷ s ∷ found) h = absurd h.1
   pair_alike a b (p ∷ q ∷ got) (r ∷ []) h = absurd h.1
   pair_alike a b (p ∷ q ∷ got) (r ∷ s ∷ found) h = ways_alike v f.head.mode a b p q r s h.0 h.1.0
@@ -38,7 +40,8 @@ module _ (v : ℕ → ℤ) (f : Function) where
     -- the last transformation of the other way
     right_alike :
         (left p q other r s : SymOp) → Agree v left other → Agree v p r → Agree v q s
-        → EndAlike v (ask_transform f q p (λ right. ask_same_form left right)) (ask_transform f s r (λ right. ask_same_form other right))
+        → EndAlike v (ask_transform f q p (λ right. ask_same_form left right))
+        (ask_transform f s r (λ right. ask_same_form other right))
     right_alike left p q other r s h first second =
         transform_alike v f q p s r _ _ second first (λ x y agree. same_form_alike v left x other y h agree)
 
@@ -88,7 +91,8 @@ module _ (v : ℕ → ℤ) (f : Function) where
   -- what is left of an obligation
   pub after_alike :
       (ob : ObName) (os got found : List SymOp) → length got ≡ length found
-      → AllAgree v (still_read ob got) (still_read ob found) → EndAlike v (ask_after f ob os got) (ask_after f ob os found)
+      → AllAgree v (still_read ob got) (still_read ob found)
+      → EndAlike v (ask_after f ob os got) (ask_after f ob os found)
   unfolding ask_after
   after_alike (Pair k l) [] got found e h = refl
   after_alike (Pair k l) (a ∷ []) got found e h = refl

@@ -1,7 +1,7 @@
 -- Operations that are one at a valuation, as far as anything that is asked can tell: what is compared of them is
 -- equal, and they become operations that are one again.
-use Rattle.std.proofs.Common.{◌≡◌, ℕ, ℤ, ◌+ℤ◌, Bool, true, false, not, ◌&&◌, ◌||◌, if◌then◌else◌, Option, Some, None, List, [], ◌∷◌, refl, ap, sym, ◌∙◌, subst}
-use Rattle.std.proofs.Common.{arith}
+use Rattle.std.proofs.Common.{◌≡◌, ℕ, ℤ, ◌+ℤ◌, Bool, true, false, not, ◌&&◌, ◌||◌, if◌then◌else◌, Option, Some, None}
+use Rattle.std.proofs.Common.{List, [], ◌∷◌, refl, ap, sym, ◌∙◌, subst, arith}
 use Rattle.std.proofs.lemmas.Int.{ints}
 use Rattle.ot_model.specs.declared.op.Kind.{Kind}
 use Rattle.fn_rules.specs.declared.guard.Atom.{Atom}
@@ -16,7 +16,8 @@ use Rattle.fn_rules.specs.Functions.{Function, GuardedCase, cases_of}
 use Rattle.ot_questions.specs.declared.place.Place.{Place}
 use Rattle.ot_questions.specs.declared.place.SymOp.{SymOp}
 use Rattle.ot_questions.specs.declared.place.SymOp.TheVariants.{Ins, Del, Upd, Nop}
-use Rattle.ot_questions.specs.Places.{zero_place, plus, integer_at, place_of_name, sym_kind, sym_at, sym_site, sym_char, sym_placed, sym_result, sym_thing}
+use Rattle.ot_questions.specs.Places.{zero_place, plus, integer_at, place_of_name, sym_kind, sym_at, sym_site, sym_char}
+use Rattle.ot_questions.specs.Places.{sym_placed, sym_result, sym_thing}
 use Rattle.ot_questions.proofs.Values.{sym_atom_holds, sym_holds, sym_first, sym_by_kinds, sym_transformed}
 
 -- one kind, site and character, at one integer
@@ -63,7 +64,8 @@ sym_char-placed (Upd at ch site) p = refl
 sym_char-placed Nop p = refl
 
 -- an operation is the other one, put where it stands
-pub placed_is : (a b : SymOp) → sym_kind a ≡ sym_kind b → sym_site a ≡ sym_site b → sym_char a ≡ sym_char b → b ≡ sym_placed a (sym_at b)
+pub placed_is : (a b : SymOp) → sym_kind a ≡ sym_kind b → sym_site a ≡ sym_site b → sym_char a ≡ sym_char b
+    → b ≡ sym_placed a (sym_at b)
 placed_is (Ins p c s) (Ins q d t) k e h = cc
 placed_is (Ins p c s) (Del q t) k e h = absurd (cc)
 placed_is (Ins p c s) (Upd q d t) k e h = absurd (cc)
@@ -94,7 +96,8 @@ module _ (v : ℕ → ℤ) where
   same_integer_of_kind None p q e = refl
   same_integer_of_kind (Some k) p q e = e
 
-  Agree-placed : (a b : SymOp) (p q : Place) → Agree v a b → integer_at v p ≡ integer_at v q → Agree v (sym_placed a p) (sym_placed b q)
+  Agree-placed : (a b : SymOp) (p q : Place) → Agree v a b → integer_at v p ≡ integer_at v q
+      → Agree v (sym_placed a p) (sym_placed b q)
   Agree-placed a b p q h e = record {
     kind = sym_kind-placed a p ∙ (h.kind ∙ sym (sym_kind-placed b q));
     site = sym_site-placed a p ∙ (h.site ∙ sym (sym_site-placed b q));
@@ -105,7 +108,8 @@ module _ (v : ℕ → ℤ) where
         ∙ (ap (λ k. integer_at v (place_of_kind k q)) h.kind ∙ ap (integer_at v) (sym (sym_at-placed b q))));
   }
 
-  same_thing : (sort : Sort) (a b : SymOp) → Agree v a b → integer_at v (sym_thing sort a) ≡ integer_at v (sym_thing sort b)
+  same_thing : (sort : Sort) (a b : SymOp) → Agree v a b
+      → integer_at v (sym_thing sort a) ≡ integer_at v (sym_thing sort b)
   same_thing Pos a b h = h.at
   same_thing Site a b h = ap (λ o. integer_at v (place_of_name o)) h.site
   same_thing Char a b h = ap (λ o. integer_at v (place_of_name o)) h.ch
@@ -132,14 +136,17 @@ module _ (v : ℕ → ℤ) where
         let right =
         same_plus _ _ atom.k (same_thing atom.sort _ _ (of_side_agree (other_side atom.left)))
         in
-        ap (λ x. is_compared atom.cmp x (integer_at v (plus (sym_thing atom.sort (of_side (other_side atom.left) a b)) atom.k))) left
+        ap (λ x. is_compared atom.cmp x
+        (integer_at v (plus (sym_thing atom.sort (of_side (other_side atom.left) a b)) atom.k))) left
         ∙ ap (λ y. is_compared atom.cmp (integer_at v (sym_thing atom.sort (of_side atom.left c d))) y) right
 
     same_truth : (g : Formula) → sym_holds v g a b ≡ sym_holds v g c d
     same_truth Always = refl
     same_truth (Compare atom) = same_atom atom
-    same_truth (And g h) = ap (λ t. t && sym_holds v h a b) (same_truth g) ∙ ap (λ t. sym_holds v g c d && t) (same_truth h)
-    same_truth (Or g h) = ap (λ t. t || sym_holds v h a b) (same_truth g) ∙ ap (λ t. sym_holds v g c d || t) (same_truth h)
+    same_truth (And g h) = ap (λ t. t && sym_holds v h a b) (same_truth g)
+        ∙ ap (λ t. sym_holds v g c d && t) (same_truth h)
+    same_truth (Or g h) = ap (λ t. t || sym_holds v h a b) (same_truth g)
+        ∙ ap (λ t. sym_holds v g c d || t) (same_truth h)
     same_truth (Not g) = ap not (same_truth g)
 
     results_agree : (res : Res) → Agree v (sym_result res a b) (sym_result res c d)
@@ -152,10 +159,11 @@ module _ (v : ℕ → ℤ) where
     first_agree (x ∷ cs) =
         subst (λ t. BothAgree v (if sym_holds v x.guard a b then Some (sym_result x.res a b) else sym_first v cs a b)
         (if t then Some (sym_result x.res c d) else sym_first v cs c d)) (same_truth x.guard)
-        (if_agree (sym_holds v x.guard a b) (Some (sym_result x.res a b)) (sym_first v cs a b) (Some (sym_result x.res c d)) (sym_first v cs c d)
-        (results_agree x.res) (first_agree cs))
+        (if_agree (sym_holds v x.guard a b) (Some (sym_result x.res a b)) (sym_first v cs a b)
+        (Some (sym_result x.res c d)) (sym_first v cs c d) (results_agree x.res) (first_agree cs))
 
-    by_kinds_agree : (f : Function) (j k : Option Kind) → BothAgree v (sym_by_kinds v f a b j k) (sym_by_kinds v f c d j k)
+    by_kinds_agree : (f : Function) (j k : Option Kind)
+        → BothAgree v (sym_by_kinds v f a b j k) (sym_by_kinds v f c d j k)
     by_kinds_agree f None k = Agree-same Nop
     by_kinds_agree f (Some j) None = first
     by_kinds_agree f (Some j) (Some k) = first_agree (cases_of f j k)

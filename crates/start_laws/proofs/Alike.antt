@@ -1,5 +1,6 @@
 -- At a valuation the plans after results that agree end alike.
-use Rattle.std.proofs.Common.{◌≡◌, ℕ, ℤ, pos, ◌+ℤ◌, Bool, if◌then◌else◌, int_le, int_lt, Option, Some, None, List, [], ◌∷◌, refl, ap, sym, ◌∙◌, subst}
+use Rattle.std.proofs.Common.{◌≡◌, ℕ, ℤ, pos, ◌+ℤ◌, Bool, if◌then◌else◌, int_le, int_lt, Option, Some, None, List, []}
+use Rattle.std.proofs.Common.{◌∷◌, refl, ap, sym, ◌∙◌, subst}
 use Rattle.std.specs.Ordering.{int_eq}
 use Rattle.ot_model.specs.declared.op.Kind.{Kind}
 use Rattle.ot_model.specs.declared.op.Mode.{Mode}
@@ -11,7 +12,8 @@ use Rattle.ot_questions.specs.declared.place.SymOp.{SymOp}
 use Rattle.ot_questions.specs.declared.place.SymOp.TheVariants.{Ins, Del, Upd, Nop}
 use Rattle.ot_questions.specs.declared.why.Why.{Why}
 use Rattle.ot_questions.specs.declared.why.Why.TheVariants.{OutOfRange, Lengths, Operations}
-use Rattle.ot_questions.specs.Places.{zero_place, length_and, index_and, integer_at, sym_kind, sym_at, sym_placed, growth}
+use Rattle.ot_questions.specs.Places.{zero_place, length_and, index_and, integer_at, sym_kind, sym_at, sym_placed}
+use Rattle.ot_questions.specs.Places.{growth}
 use Rattle.ot_questions.specs.Questions.{ask_le, ask_lt, ask_transform, ask_enabled}
 use Rattle.ot_questions.specs.Reading.{ask_cell, ask_same}
 use Rattle.ot_questions.specs.Obligation.{ask_documents, ask_lengths, ask_ways, ask_one_place, ask_same_form}
@@ -31,24 +33,28 @@ module _ (v : ℕ → ℤ) where
   abbrev pub GoAlike : (SymOp → Plan Why) → (SymOp → Plan Why) → Type 0
   GoAlike go to = (r s : SymOp) → Agree v r s → EndAlike (go r) (to s)
 
-  tests_alike : (t u : Bool) (p q r s : Plan Why) → t ≡ u → EndAlike p r → EndAlike q s → by_test t p q v ≡ by_test u r s v
+  tests_alike : (t u : Bool) (p q r s : Plan Why) → t ≡ u → EndAlike p r → EndAlike q s
+      → by_test t p q v ≡ by_test u r s v
   tests_alike t u p q r s e hp hq =
       ap (λ x. by_test x p q v) e
       ∙ (ap (λ x. if u then x else end_of q v) hp ∙ ap (λ x. if u then end_of r v else x) hq)
 
-  le_alike : (x y : Place) (p q r s : Plan Why) → EndAlike p r → EndAlike q s → EndAlike (ask_le x y p q) (ask_le x y r s)
+  le_alike : (x y : Place) (p q r s : Plan Why) → EndAlike p r → EndAlike q s
+      → EndAlike (ask_le x y p q) (ask_le x y r s)
   le_alike x y p q r s hp hq =
       let t = int_le (integer_at v x) (integer_at v y) in
       end-le x y p q v ∙ (tests_alike t t p q r s refl hp hq ∙ sym (end-le x y r s v))
 
-  lt_alike : (x y : Place) (p q r s : Plan Why) → EndAlike p r → EndAlike q s → EndAlike (ask_lt x y p q) (ask_lt x y r s)
+  lt_alike : (x y : Place) (p q r s : Plan Why) → EndAlike p r → EndAlike q s
+      → EndAlike (ask_lt x y p q) (ask_lt x y r s)
   lt_alike x y p q r s hp hq =
       let t = int_lt (integer_at v x) (integer_at v y) in
       end-lt x y p q v ∙ (tests_alike t t p q r s refl hp hq ∙ sym (end-lt x y r s v))
 
   -- a fact of an operation that its position bears on only by its integer
   by_placing :
-      (P : SymOp → SymOp → Type 0) (a b : SymOp) → Agree v a b → (integer_at v (sym_at a) ≡ integer_at v (sym_at b) → P a (sym_placed a (sym_at b)))
+      (P : SymOp → SymOp → Type 0) (a b : SymOp) → Agree v a b
+      → (integer_at v (sym_at a) ≡ integer_at v (sym_at b) → P a (sym_placed a (sym_at b)))
       → P a b
   by_placing P a b h placed =
       subst (P a) (sym (placed_is a b h.kind h.site h.ch)) (placed h.at)
@@ -77,7 +83,8 @@ module _ (v : ℕ → ℤ) where
   enabled_placed Nop p off e = refl
 
   end-enabled_form :
-      (o : SymOp) (off : ℤ) (p q : Plan Why) → end_of (ask_enabled o off p q) v ≡ by_test (form_holds v (enabled_form o off)) p q v
+      (o : SymOp) (off : ℤ) (p q : Plan Why)
+      → end_of (ask_enabled o off p q) v ≡ by_test (form_holds v (enabled_form o off)) p q v
   end-enabled_form o off p q =
       ap (λ x. end_of x v) (sym (ask_form-enabled_form o off p q)) ∙ end_form (enabled_form o off) p q v
 
@@ -86,7 +93,8 @@ module _ (v : ℕ → ℤ) where
       → EndAlike (ask_enabled a j p q) (ask_enabled b k r s)
   enabled_alike a b j k p q r s h e hp hq =
       let same =
-      by_placing (λ x y. form_holds v (enabled_form x j) ≡ form_holds v (enabled_form y j)) a b h (enabled_placed a (sym_at b) j)
+      by_placing (λ x y. form_holds v (enabled_form x j) ≡ form_holds v (enabled_form y j)) a b h
+      (enabled_placed a (sym_at b) j)
       ∙ ap (λ i. form_holds v (enabled_form b i)) e
       in
       end-enabled_form a j p q ∙ (tests_alike _ _ p q r s same hp hq ∙ sym (end-enabled_form b k r s))
@@ -99,7 +107,8 @@ module _ (v : ℕ → ℤ) where
   growth_placed mode Nop p = refl
 
   same_growth : (mode : Mode) (a b : SymOp) → Agree v a b → growth mode a ≡ growth mode b
-  same_growth mode a b h = by_placing (λ x y. growth mode x ≡ growth mode y) a b h (λ e. growth_placed mode a (sym_at b))
+  same_growth mode a b h =
+      by_placing (λ x y. growth mode x ≡ growth mode y) a b h (λ e. growth_placed mode a (sym_at b))
 
   -- what a reading comes to, where the last change is at a place of the same integer
   seen_placed :
@@ -138,8 +147,10 @@ module _ (v : ℕ → ℤ) where
     documents_alike j k e =
         let same =
         end-cells mode (p ∷ a ∷ []) (q ∷ b ∷ [])
-        ∙ (ap (λ x. end_of (ask_same x (seen v mode (q ∷ b ∷ []) (pos 0))) v) (same_seen mode p r (a ∷ []) (pos 0) first)
-        ∙ (ap (λ x. end_of (ask_same (seen v mode (r ∷ a ∷ []) (pos 0)) x) v) (same_seen mode q s (b ∷ []) (pos 0) second)
+        ∙ (ap (λ x. end_of (ask_same x (seen v mode (q ∷ b ∷ []) (pos 0))) v)
+        (same_seen mode p r (a ∷ []) (pos 0) first)
+        ∙ (ap (λ x. end_of (ask_same (seen v mode (r ∷ a ∷ []) (pos 0)) x) v)
+        (same_seen mode q s (b ∷ []) (pos 0) second)
         ∙ sym (end-cells mode (r ∷ a ∷ []) (s ∷ b ∷ []))))
         in
         ap (λ i. end_of (ask_documents mode (p ∷ a ∷ []) (q ∷ b ∷ []) i) v) e
@@ -151,7 +162,8 @@ module _ (v : ℕ → ℤ) where
     lengths_alike =
         let left = ap (λ k. growth mode a +ℤ k) (same_growth mode p r first) in
         let right = ap (λ k. growth mode b +ℤ k) (same_growth mode q s second) in
-        let test = ap (λ k. int_eq k (growth mode b +ℤ growth mode q)) left ∙ ap (λ k. int_eq (growth mode a +ℤ growth mode r) k) right in
+        let test = ap (λ k. int_eq k (growth mode b +ℤ growth mode q)) left
+        ∙ ap (λ k. int_eq (growth mode a +ℤ growth mode r) k) right in
         if_end _ _ (Fails Lengths) v
         ∙ (tests_alike _ _ _ (Fails Lengths) _ (Fails Lengths) test (documents_alike _ _ left) refl
         ∙ sym (if_end _ _ (Fails Lengths) v))
@@ -161,7 +173,8 @@ module _ (v : ℕ → ℤ) where
     unfolding ask_ways
     ways_alike =
         enabled_alike p r (growth mode a) (growth mode a) _ (Fails OutOfRange) _ (Fails OutOfRange) first refl
-        (enabled_alike q s (growth mode b) (growth mode b) _ (Fails OutOfRange) _ (Fails OutOfRange) second refl lengths_alike refl) refl
+        (enabled_alike q s (growth mode b) (growth mode b) _ (Fails OutOfRange) _ (Fails OutOfRange) second
+        refl lengths_alike refl) refl
 
   -- comparing two positions ends alike where their integers are the same
   one_place_alike :
@@ -174,7 +187,8 @@ module _ (v : ℕ → ℤ) where
   one_place_alike (Some j) (Some k) x y z w e h =
       let same = ap (λ i. int_eq i (integer_at v y)) e ∙ ap (λ i. int_eq (integer_at v z) i) h in
       end-eq x y Holds (Fails Operations) v
-      ∙ (tests_alike _ _ Holds (Fails Operations) Holds (Fails Operations) same refl refl ∙ sym (end-eq z w Holds (Fails Operations) v))
+      ∙ (tests_alike _ _ Holds (Fails Operations) Holds (Fails Operations) same refl refl
+      ∙ sym (end-eq z w Holds (Fails Operations) v))
 
   -- whether two forms are one
   pub same_form_alike : (a b c d : SymOp) → Agree v a c → Agree v b d → EndAlike (ask_same_form a b) (ask_same_form c d)

@@ -1,6 +1,7 @@
 -- A valuation that meets the conditions between two starts gives both one end.
-use Rattle.std.proofs.Common.{◌≡◌, ◌⊎◌, ℕ, zero, suc, ℤ, ◌+ℤ◌, ◌-ℤ◌, ◌≤ℤ◌, Bool, true, false, ◌&&◌, if◌then◌else◌, nat_eq, Option, Some, None, List, [], ◌∷◌}
-use Rattle.std.proofs.Common.{◌++◌, length, refl, ap, sym, ◌∙◌, subst, inl, inr, arith}
+use Rattle.std.proofs.Common.{◌≡◌, ◌⊎◌, ℕ, zero, suc, ℤ, ◌+ℤ◌, ◌-ℤ◌, ◌≤ℤ◌, Bool, true, false, ◌&&◌, if◌then◌else◌}
+use Rattle.std.proofs.Common.{nat_eq, Option, Some, None, List, [], ◌∷◌, ◌++◌, length, refl, ap, sym, ◌∙◌, subst, inl}
+use Rattle.std.proofs.Common.{inr, arith}
 use Rattle.std.specs.Prelude.{is_none}
 use Rattle.std.specs.Option.{option_eq}
 use Rattle.std.specs.Ordering.{int_eq}
@@ -24,8 +25,9 @@ use Rattle.ot_questions.specs.declared.place.SymOp.TheVariants.{Ins, Del, Upd, N
 use Rattle.ot_questions.specs.Places.{integer_at, sym_kind, sym_at, sym_site, sym_char, sym_placed}
 use Rattle.ot_questions.proofs.Listed.{each_of_both}
 use Rattle.ot_terms.specs.Standing.{ask_after}
-use Rattle.start_laws.specs.Starts.{Start, meaning, still_read, is_same_ob, is_same_place, is_same_but_position, is_same_op, conditions_at, conditions_of}
-use Rattle.start_laws.specs.Starts.{all_conditions, conditions_of_each, compare_starts}
+use Rattle.start_laws.specs.Starts.{Start, meaning, still_read, is_same_ob, is_same_place, is_same_but_position}
+use Rattle.start_laws.specs.Starts.{is_same_op, conditions_at, conditions_of, all_conditions, conditions_of_each}
+use Rattle.start_laws.specs.Starts.{compare_starts}
 use Rattle.start_laws.proofs.Agreement.{Agree, placed_is}
 use Rattle.start_laws.proofs.After.{AllAgree, after_alike}
 
@@ -43,14 +45,16 @@ kind_at-rank kinds.Upd = refl
 one_kind : (k l : Kind) → is_same_kind k l ≡ true → k ≡ l
 one_kind k l e = sym (kind_at-rank k) ∙ (ap kind_at (eqb-true (kind_rank k) (kind_rank l) e) ∙ kind_at-rank l)
 
-one_option : {X : Type 0} (E : X → X → Bool) → ((x y : X) → E x y ≡ true → x ≡ y) → (o p : Option X) → option_eq E o p ≡ true → o ≡ p
+one_option : {X : Type 0} (E : X → X → Bool) → ((x y : X) → E x y ≡ true → x ≡ y) → (o p : Option X)
+    → option_eq E o p ≡ true → o ≡ p
 one_option E tells None None e = refl
 one_option E tells None (Some y) e = absurd (false≢true e)
 one_option E tells (Some x) None e = absurd (false≢true e)
 one_option E tells (Some x) (Some y) e = ap Some (tells x y e)
 
 one_list :
-    {X : Type 0} (E : X → X → Bool) → ((x y : X) → E x y ≡ true → x ≡ y) → (xs ys : List X) → pointwise E xs ys ≡ true → xs ≡ ys
+    {X : Type 0} (E : X → X → Bool) → ((x y : X) → E x y ≡ true → x ≡ y) → (xs ys : List X)
+    → pointwise E xs ys ≡ true → xs ≡ ys
 one_list E tells [] [] e = refl
 one_list E tells [] (y ∷ ys) e = absurd (false≢true e)
 one_list E tells (x ∷ xs) [] e = absurd (false≢true e)
@@ -76,9 +80,10 @@ parts_alike :
     (a b : SymOp) → is_same_but_position a b ≡ true
     → (sym_kind a ≡ sym_kind b) × (sym_site a ≡ sym_site b) × (sym_char a ≡ sym_char b)
 parts_alike a b e =
-    let most = and_parts (option_eq is_same_kind (sym_kind a) (sym_kind b) && option_eq nat_eq (sym_site a) (sym_site b))
-    (option_eq nat_eq (sym_char a) (sym_char b)) e in
-    let both = and_parts (option_eq is_same_kind (sym_kind a) (sym_kind b)) (option_eq nat_eq (sym_site a) (sym_site b)) most.0 in (
+    let most = and_parts (option_eq is_same_kind (sym_kind a) (sym_kind b)
+    && option_eq nat_eq (sym_site a) (sym_site b)) (option_eq nat_eq (sym_char a) (sym_char b)) e in
+    let both = and_parts (option_eq is_same_kind (sym_kind a) (sym_kind b))
+    (option_eq nat_eq (sym_site a) (sym_site b)) most.0 in (
       one_option is_same_kind one_kind (sym_kind a) (sym_kind b) both.0,
       one_option nat_eq eqb-true (sym_site a) (sym_site b) both.1,
       one_option nat_eq eqb-true (sym_char a) (sym_char b) most.1,
@@ -115,7 +120,8 @@ both_bounds : (x y i j : ℤ) → x ≤ℤ (y +ℤ (j -ℤ i)) → y ≤ℤ (x +
 both_bounds x y i j h g = omega (arith, ints)
 
 -- a choice by a test, where its value is known
-chosen : (t : Bool) (o p : Option (List Lit)) (es : List Lit) → (if t then o else p) ≡ Some es → ((t ≡ true) × (o ≡ Some es)) ⊎ ((t ≡ false) × (p ≡ Some es))
+chosen : (t : Bool) (o p : Option (List Lit)) (es : List Lit) → (if t then o else p) ≡ Some es
+    → ((t ≡ true) × (o ≡ Some es)) ⊎ ((t ≡ false) × (p ≡ Some es))
 chosen true o p es e = inl (refl, e)
 chosen false o p es e = inr (refl, e)
 
@@ -125,7 +131,8 @@ module _ (v : ℕ → ℤ) where
 
   -- two places have one integer
   one_integer :
-      (there here : Place) (es : List Lit) → conditions_at there here ≡ Some es → AreMet v es → integer_at v there ≡ integer_at v here
+      (there here : Place) (es : List Lit) → conditions_at there here ≡ Some es → AreMet v es
+      → integer_at v there ≡ integer_at v here
   one_integer there here es e met =
       elim (chosen (nat_eq there.var here.var) _ _ es e) [
         | inl same ↦
@@ -141,7 +148,8 @@ module _ (v : ℕ → ℤ) where
       ]
 
   -- two results are one operation
-  one_result : (there here : SymOp) (es : List Lit) → conditions_of there here ≡ Some es → AreMet v es → Agree v there here
+  one_result : (there here : SymOp) (es : List Lit) → conditions_of there here ≡ Some es
+      → AreMet v es → Agree v there here
   one_result there here es e met =
       elim (chosen (is_same_but_position there here) _ _ es e) [
         | inl same ↦
@@ -183,9 +191,11 @@ pub record AreComparable (s here : Start) (es : List Lit) : Type 0 where
 -- starts that compare have one obligation, the same operations and as many results
 comparable : (s here : Start) (es : List Lit) → compare_starts s here ≡ Some es → AreComparable s here es
 comparable s here es e =
-    elim (chosen (nat_eq (length s.got) (length here.got) && is_same_ob s.ob here.ob && pointwise is_same_op s.ops here.ops) _ _ es e) [
+    elim (chosen (nat_eq (length s.got) (length here.got) && is_same_ob s.ob here.ob
+    && pointwise is_same_op s.ops here.ops) _ _ es e) [
       | inl same ↦
-          (let most = and_parts (nat_eq (length s.got) (length here.got) && is_same_ob s.ob here.ob) (pointwise is_same_op s.ops here.ops) same.0 in
+          (let most = and_parts (nat_eq (length s.got) (length here.got) && is_same_ob s.ob here.ob)
+          (pointwise is_same_op s.ops here.ops) same.0 in
           let both = and_parts (nat_eq (length s.got) (length here.got)) (is_same_ob s.ob here.ob) most.0 in
           record {
             count = eqb-true (length s.got) (length here.got) both.0;
@@ -207,7 +217,8 @@ starts_end_alike f s here es v e met =
     in
     let read = subst (λ ob. AllAgree v (still_read s.ob s.got) (still_read ob here.got)) (sym both.ob) results in
     after_alike v f s.ob s.ops s.got here.got both.count read
-    ∙ (ap (λ ob. end_of (ask_after f ob s.ops here.got) v) both.ob ∙ ap (λ ops. end_of (ask_after f here.ob ops here.got) v) both.ops)
+    ∙ (ap (λ ob. end_of (ask_after f ob s.ops here.got) v) both.ob
+    ∙ ap (λ ops. end_of (ask_after f here.ob ops here.got) v) both.ops)
 
 pub compare_starts_lawful : (f : Function) → IsLawful compare_starts (meaning f)
 compare_starts_lawful f s here es v e met = ap is_none (starts_end_alike f s here es v e met)

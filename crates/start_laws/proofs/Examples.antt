@@ -34,7 +34,8 @@ pair_after got = record { ob = Pair kinds.Del kinds.Del; ops = deletions; got = 
 nothing_done : compare_starts (triple_after []) (triple_after []) ≡ Some []
 nothing_done = refl
 
-equal_starts : compare_starts (triple_after (b_at 6 (pos 0) ∷ c_at 9 (negsuc 0) ∷ [])) (triple_after (b_at 6 (pos 0) ∷ c_at 9 (negsuc 0) ∷ []))
+equal_starts : compare_starts (triple_after (b_at 6 (pos 0) ∷ c_at 9 (negsuc 0) ∷ []))
+    (triple_after (b_at 6 (pos 0) ∷ c_at 9 (negsuc 0) ∷ []))
     ≡ Some []
 equal_starts = refl
 
@@ -52,7 +53,8 @@ two_names_with_offsets : compare_starts (pair_after (b_at 6 (negsuc 0) ∷ [])) 
 two_names_with_offsets = refl
 
 -- the conditions of the first result come before those of the second one
-two_results : compare_starts (triple_after (b_at 6 (pos 0) ∷ c_at 9 (pos 0) ∷ [])) (triple_after (b_at 3 (pos 0) ∷ c_at 3 (pos 0) ∷ []))
+two_results : compare_starts (triple_after (b_at 6 (pos 0) ∷ c_at 9 (pos 0) ∷ []))
+    (triple_after (b_at 3 (pos 0) ∷ c_at 3 (pos 0) ∷ []))
     ≡ Some (lit 3 6 (pos 0) ∷ lit 6 3 (pos 0) ∷ lit 3 9 (pos 0) ∷ lit 9 3 (pos 0) ∷ [])
 two_results = refl
 
@@ -69,7 +71,8 @@ nop_beside_another = refl
 two_sites : compare_starts (pair_after (b_at 6 (pos 0) ∷ [])) (pair_after (Del (place 6 (pos 0)) 4 ∷ [])) ≡ None
 two_sites = refl
 
-two_characters : compare_starts (pair_after (Ins (place 6 (pos 0)) 8 7 ∷ [])) (pair_after (Ins (place 6 (pos 0)) 5 7 ∷ [])) ≡ None
+two_characters : compare_starts (pair_after (Ins (place 6 (pos 0)) 8 7 ∷ []))
+    (pair_after (Ins (place 6 (pos 0)) 5 7 ∷ [])) ≡ None
 two_characters = refl
 
 two_counts : compare_starts (triple_after (b_at 6 (pos 0) ∷ [])) (triple_after (b_at 6 (pos 0) ∷ Nop ∷ [])) ≡ None
@@ -84,7 +87,8 @@ not_read_any_more : compare_starts (triple_after (b_at 6 (pos 0) ∷ c_at 9 (pos
     ≡ Some []
 not_read_any_more = refl
 
-still_read_before : compare_starts (triple_after (b_at 6 (pos 0) ∷ c_at 9 (pos 0) ∷ [])) (triple_after (Nop ∷ c_at 9 (pos 0) ∷ [])) ≡ None
+still_read_before : compare_starts (triple_after (b_at 6 (pos 0) ∷ c_at 9 (pos 0) ∷ []))
+    (triple_after (Nop ∷ c_at 9 (pos 0) ∷ [])) ≡ None
 still_read_before = refl
 
 -- the results that are read where the next transformation has a number: the number is how many there are

@@ -1,5 +1,6 @@
 -- The results of an obligation are few, and at small offsets.
-use Rattle.std.proofs.Common.{◌≡◌, ◌⊎◌, ℕ, ◌≤◌, Option, Some, None, List, [], ◌∷◌, ◌++◌, length, take, subst, sym, inl, inr, arith, lit≤}
+use Rattle.std.proofs.Common.{◌≡◌, ◌⊎◌, ℕ, ◌≤◌, Option, Some, None, List, [], ◌∷◌, ◌++◌, length, take, subst, sym, inl}
+use Rattle.std.proofs.Common.{inr, arith, lit≤}
 use Rattle.std.specs.Prelude.{MatchOption, nat_eq, if◌then◌else◌, Bool, true, false}
 use Rattle.std.specs.List.{AllByRecursion}
 use Rattle.std.proofs.lemmas.List.{length-append, length-take}
@@ -37,7 +38,8 @@ next_near : (ob : ObName) (os got : List SymOp) (r : SymOp) → IsNextResult ob 
 next_near ob os got r h =
     moved_near (name_count ob) (reach_of ob (length got)) (next_operands ob os got) r (reach_small ob (length got)) h
 
-each_near : (ob : ObName) (os before got : List SymOp) → AreResults ob os before got → AllByRecursion (IsNearOp 1000) got
+each_near : (ob : ObName) (os before got : List SymOp) → AreResults ob os before got
+    → AllByRecursion (IsNearOp 1000) got
 each_near ob os before [] h = tt
 each_near ob os before (r ∷ got) h = (next_near ob os before r h.0, each_near ob os (before ++ r ∷ []) got h.1)
 
@@ -64,7 +66,8 @@ progress_begun ob progress h =
 
 -- so are they with one more result
 pub result_begun :
-    (ob : ObName) (progress : GoalProgress) (r : SymOp) → IsProgressOf ob progress → IsNextResult ob progress.ops (results_of progress) r
+    (ob : ObName) (progress : GoalProgress) (r : SymOp) → IsProgressOf ob progress
+    → IsNextResult ob progress.ops (results_of progress) r
     → IsBegunProgress progress (Some r)
 result_begun ob progress r h next =
     let before = progress_begun ob progress h in
@@ -75,5 +78,6 @@ result_begun ob progress r h next =
       room = h.room;
       few = omega (arith, length-append (results_of progress) (r ∷ []));
       count = before.count;
-      near = each_appended (IsNearOp 1000) (results_of progress) (r ∷ []) before.near (next_near ob progress.ops (results_of progress) r next, tt);
+      near = each_appended (IsNearOp 1000) (results_of progress) (r ∷ []) before.near
+          (next_near ob progress.ops (results_of progress) r next, tt);
     }

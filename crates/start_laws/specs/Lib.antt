@@ -1,2 +1,4 @@
 pub mod Starts
 pub mod Begun
+pub mod Marking
+pub mod Settled

@@ -1,5 +1,6 @@
--- The first goal of two deletions whose sites are assumed to differ: a condition of the length and one of each deletion,
--- then their sites, and then the second deletion is transformed behind the first. `start_goal` gives exactly this.
+-- The first goal of two deletions whose sites are assumed to differ: a condition of the
+-- length and one of each deletion, then their sites, and then the second deletion is
+-- transformed behind the first. `start_goal` gives exactly this.
 use Rattle.std.specs.Prelude.{◌≡◌, pos, true, false, refl}
 use Rattle.ot_model.specs.declared.op.Kind.TheVariants as kinds
 use Rattle.ot_model.specs.declared.op.Mode.TheVariants.{Tomb}

@@ -16,7 +16,8 @@ use Rattle.ot_paths.specs.Nodes.{IsNode}
 -- a condition in front of two nodes is a node
 abbrev pub ConditionsAreNodes : Type 0
 ConditionsAreNodes =
-    (f : Function) (ob : ObName) (g : FormTree) (y n : GoalTree) → HasPlaces (name_count ob) g → IsNode f ob y → IsNode f ob n
+    (f : Function) (ob : ObName) (g : FormTree) (y n : GoalTree) → HasPlaces (name_count ob) g
+    → IsNode f ob y → IsNode f ob n
     → comparisons_left g + max (longest_path (ask_goal f y)) (longest_path (ask_goal f n)) ≤ MAX_QUESTIONS
     → IsNode f ob (If g y n)
 
@@ -28,10 +29,13 @@ short_enough f g why short = omega (arith, short)
 
 -- a short guard in front of the two ends
 pub guard_goal :
-    ConditionsAreNodes → (f : Function) (ob : ObName) (g : FormTree) (why : Why) (y n goal : GoalTree) → y ≡ Holds → n ≡ Fails why
-    → goal ≡ If g y n → IsNode f ob Holds × IsNode f ob (Fails why) → HasPlaces (name_count ob) g → comparisons_left g ≤ 99
+    ConditionsAreNodes → (f : Function) (ob : ObName) (g : FormTree) (why : Why) (y n goal : GoalTree)
+    → y ≡ Holds → n ≡ Fails why
+    → goal ≡ If g y n → IsNode f ob Holds × IsNode f ob (Fails why) → HasPlaces (name_count ob) g
+    → comparisons_left g ≤ 99
     → IsNode f ob goal
 guard_goal are_nodes f ob g why y n goal on_yes on_no is ends places short =
-    let whole : goal ≡ If g Holds (Fails why) = is ∙ ap (λ (t : GoalTree). If g t n) on_yes ∙ ap (λ (t : GoalTree). If g Holds t) on_no in
+    let whole : goal ≡ If g Holds (Fails why) = is ∙ ap (λ (t : GoalTree). If g t n) on_yes
+    ∙ ap (λ (t : GoalTree). If g Holds t) on_no in
     subst (λ (t : GoalTree). IsNode f ob t) (sym whole)
     (are_nodes f ob g Holds (Fails why) places ends.0 ends.1 (short_enough f g why short))

@@ -1,5 +1,6 @@
 -- Rows of forms that are split, of cells that are compared and of a guard that is laid out, computed on the definitions
--- that `split`, `same_finished` and `by_guard` are proved to answer by. `src/splits.rt` and `src/askers.rt` call each once.
+-- that `split`, `same_finished` and `by_guard` are proved to answer by.
+-- `src/splits.rt` and `src/askers.rt` call each once.
 use Rattle.std.specs.Prelude.{◌≡◌, pos, negsuc, refl}
 use Rattle.ot_model.specs.declared.op.Kind.TheVariants.{Del}
 use Rattle.fn_rules.specs.declared.guard.Side.TheVariants.{First}
@@ -16,7 +17,7 @@ use Rattle.ot_terms.specs.Forms.{FormTree, True, Le, Lt, Eq, Or, Not}
 use Rattle.ot_terms.specs.Goals.{Holds, Fails, If, laid_form}
 use Rattle.ot_terms.specs.Placing.{guard_form}
 use Rattle.ot_rewrite.specs.Splits.{Yes, No, Ask, split_of}
-use Rattle.goal_rules.specs.Table.{same_finished}
+use Rattle.ot_rewrite.specs.Table.{same_finished}
 
 abbrev x : Place
 x = place 3 (pos 0)

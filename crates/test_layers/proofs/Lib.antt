@@ -1,3 +1,8 @@
 mod GuardGoals
 mod FirstGoals
 mod LaidRows
+mod OperationRows
+mod FunctionRows
+mod JudgingRows
+mod TokenRows
+mod TreeRows

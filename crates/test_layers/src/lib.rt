@@ -1,4 +1,7 @@
-//! Calls of the layers below the commands, beside rows that were found by hand: tests alone.
+//! Calls of all crates below the commands, beside rows that were found by hand: tests alone.
+//!
+//! `settled`, `least`, `reversals`, `hubs`, `steps` and `traces` call what decides a function, and a hub, once with
+//! memory enough: a body that answers nothing but want of memory would be proved too.
 #![tactic(auto)]
 
 #[cfg(test)]
@@ -10,20 +13,66 @@ mod blocks;
 #[cfg(test)]
 mod checks;
 #[cfg(test)]
+mod cycles;
+#[cfg(test)]
+mod documents;
+#[cfg(test)]
+mod fixtures;
+#[cfg(test)]
+mod floors;
+#[cfg(test)]
 mod functions;
+#[cfg(test)]
+mod hints;
+#[cfg(test)]
+mod hubs;
+#[cfg(test)]
+mod least;
+#[cfg(test)]
+mod lists;
+#[cfg(test)]
+mod operations;
 #[cfg(test)]
 mod outside;
 #[cfg(test)]
+mod paths;
+#[cfg(test)]
+mod printing;
+#[cfg(test)]
 mod proofs_with_lemmas;
+#[cfg(test)]
+mod reader;
+#[cfg(test)]
+mod reversals;
+#[cfg(test)]
+mod rules;
 #[cfg(test)]
 mod searches;
 #[cfg(test)]
 mod sessions;
 #[cfg(test)]
+mod settled;
+#[cfg(test)]
+mod solver;
+#[cfg(test)]
 mod splits;
 #[cfg(test)]
 mod starts;
 #[cfg(test)]
+mod steps;
+#[cfg(test)]
+mod tables;
+#[cfg(test)]
+mod tokens;
+#[cfg(test)]
+mod traces;
+#[cfg(test)]
+mod trees;
+#[cfg(test)]
 mod two_names;
+#[cfg(test)]
+mod whole_functions;
+#[cfg(test)]
+mod writer;
 #[cfg(test)]
 mod written;

@@ -1,6 +1,6 @@
 //! What the search of a plan over two names comes to.
 ghost use Rattle.std.specs.Prelude.{◌≤◌};
-ghost use Rattle.search_places.specs.declared.split.TheConstants.{MAX_NAMES};
+ghost use Rattle.ask_core.specs.declared.asker.TheConstants.{MAX_NAMES};
 
 use crate::two_names::TwoNames;
 use ask_core::{Asker, NoMemory, Premised};

@@ -1,8 +1,7 @@
 //! Forms split at their first questions, and finished cells compared. Further rows are `proofs/LaidRows.antt`.
 use bumpalo::Bump;
-use goal_rules::{Front, same_finished};
 use ot_questions::Finished;
-use ot_rewrite::{Split, split};
+use ot_rewrite::{Front, Split, same_finished, split};
 use ot_terms::{Form, NoMemory, Place};
 
 const X: Place = Place { var: 3, off: 0 };

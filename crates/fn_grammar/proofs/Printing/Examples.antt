@@ -46,10 +46,12 @@ or_groups_from_the_left = refl
 or_on_the_right : text (Or before (Or sites_before same_char)) ≡ codes "p1 < p2 or ( s1 < s2 or c2 = c1 )"
 or_on_the_right = refl
 
-and_binds_tighter : text (Or (And before sites_before) (And same_char Always)) ≡ codes "p1 < p2 and s1 < s2 or c2 = c1 and true"
+and_binds_tighter : text (Or (And before sites_before) (And same_char Always))
+    ≡ codes "p1 < p2 and s1 < s2 or c2 = c1 and true"
 and_binds_tighter = refl
 
-or_in_and : text (And (Or before sites_before) (Or same_char Always)) ≡ codes "( p1 < p2 or s1 < s2 ) and ( c2 = c1 or true )"
+or_in_and : text (And (Or before sites_before) (Or same_char Always))
+    ≡ codes "( p1 < p2 or s1 < s2 ) and ( c2 = c1 or true )"
 or_in_and = refl
 
 not_binds_tightest : text (And (Not before) (Not (Not Always))) ≡ codes "not p1 < p2 and not not true"
@@ -70,18 +72,33 @@ newline = 10 ∷ []
 -- insertions that meet far off
 abbrev far : Function
 far =
-    function_from record { mode = Plain; ins = true; del = false; upd = false; sites_differ = false; chars_differ = false }
-    (block Ins Ins (record { guard = compared Pos First Le (pos 99); res = Keep First (pos 0) } ∷ []) ∷ [])
+    function_from record {
+      mode = Plain;
+      ins = true;
+      del = false;
+      upd = false;
+      sites_differ = false;
+      chars_differ =
+          false;
+    } (block Ins Ins (record { guard = compared Pos First Le (pos 99); res = Keep First (pos 0) } ∷ []) ∷ [])
 
 far_text : printed far
-    ≡ codes "otfn 1" ++ newline ++ codes "text plain" ++ newline ++ codes "kinds ins" ++ newline ++ codes "block ins ins" ++ newline
+    ≡ codes "otfn 1" ++ newline ++ codes "text plain" ++ newline ++ codes "kinds ins" ++ newline
+    ++ codes "block ins ins" ++ newline
     ++ codes "case p1 <= p2 + 99 : ins p1" ++ newline ++ codes "end" ++ newline
 unfolding digits head_tokens declared_block
 far_text = refl
 
 abbrev insertions : Function
 insertions =
-    function_from record { mode = Plain; ins = true; del = false; upd = false; sites_differ = true; chars_differ = false }
+    function_from record {
+      mode = Plain;
+      ins = true;
+      del = false;
+      upd = false;
+      sites_differ = true;
+      chars_differ = false;
+    }
     (block Ins Ins (
     record { guard = before; res = Keep First (pos 0) }
     ∷ record { guard = And (compared Pos First Eq (pos 0)) sites_before; res = Keep First (pos 0) }
@@ -89,8 +106,10 @@ insertions =
     ∷ []) ∷ [])
 
 insertions_text : printed insertions
-    ≡ codes "otfn 1" ++ newline ++ codes "text plain" ++ newline ++ codes "kinds ins" ++ newline ++ codes "assume sites differ" ++ newline
-    ++ codes "block ins ins" ++ newline ++ codes "case p1 < p2 : ins p1" ++ newline ++ codes "case p1 = p2 and s1 < s2 : ins p1" ++ newline
+    ≡ codes "otfn 1" ++ newline ++ codes "text plain" ++ newline ++ codes "kinds ins" ++ newline
+    ++ codes "assume sites differ" ++ newline
+    ++ codes "block ins ins" ++ newline ++ codes "case p1 < p2 : ins p1" ++ newline
+    ++ codes "case p1 = p2 and s1 < s2 : ins p1" ++ newline
     ++ codes "case true : ins p1 + 1" ++ newline ++ codes "end" ++ newline
 unfolding digits head_tokens declared_block
 insertions_text = refl
@@ -105,10 +124,12 @@ both =
     ∷ [])
 
 both_text : printed both
-    ≡ codes "otfn 1" ++ newline ++ codes "text tomb" ++ newline ++ codes "kinds ins del" ++ newline ++ codes "assume sites differ"
+    ≡ codes "otfn 1" ++ newline ++ codes "text tomb" ++ newline ++ codes "kinds ins del" ++ newline
+    ++ codes "assume sites differ"
     ++ newline
     ++ codes "assume chars differ" ++ newline ++ codes "block ins ins" ++ newline ++ codes "block ins del" ++ newline
-    ++ codes "case true : ins p2 - 1" ++ newline ++ codes "block del ins" ++ newline ++ codes "case true : nop" ++ newline
+    ++ codes "case true : ins p2 - 1" ++ newline ++ codes "block del ins" ++ newline
+    ++ codes "case true : nop" ++ newline
     ++ codes "block del del" ++ newline ++ codes "case p2 < p1 - 12 : del p1" ++ newline ++ codes "end" ++ newline
 unfolding digits head_tokens declared_block
 both_text = refl
@@ -116,11 +137,19 @@ both_text = refl
 -- updates: the second language
 abbrev updates : Function
 updates =
-    function_from record { mode = Plain; ins = false; del = false; upd = true; sites_differ = false; chars_differ = false }
-    (block Upd Upd (record { guard = compared Char First Lt (pos 0); res = Keep First (pos 0) } ∷ []) ∷ [])
+    function_from record {
+      mode = Plain;
+      ins = false;
+      del = false;
+      upd = true;
+      sites_differ = false;
+      chars_differ =
+          false;
+    } (block Upd Upd (record { guard = compared Char First Lt (pos 0); res = Keep First (pos 0) } ∷ []) ∷ [])
 
 updates_text : printed updates
-    ≡ codes "otfn 2" ++ newline ++ codes "text plain" ++ newline ++ codes "kinds upd" ++ newline ++ codes "block upd upd" ++ newline
+    ≡ codes "otfn 2" ++ newline ++ codes "text plain" ++ newline ++ codes "kinds upd" ++ newline
+    ++ codes "block upd upd" ++ newline
     ++ codes "case c1 < c2 : upd p1" ++ newline ++ codes "end" ++ newline
 unfolding digits head_tokens declared_block
 updates_text = refl

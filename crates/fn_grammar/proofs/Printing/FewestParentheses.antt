@@ -1,6 +1,6 @@
 -- The canonical text of a guard has no more parentheses than any other text of it.
-use Rattle.std.proofs.Common.{◌≡◌, ℕ, zero, suc, ◌+◌, ◌≤◌, ℤ, pos, negsuc, Bool, true, false, List, [], ◌∷◌, ◌++◌, refl, ap, ◌∙◌, cond}
-use Rattle.std.proofs.Common.{arith}
+use Rattle.std.proofs.Common.{◌≡◌, ℕ, zero, suc, ◌+◌, ◌≤◌, ℤ, pos, negsuc, Bool, true, false, List, [], ◌∷◌, ◌++◌, refl}
+use Rattle.std.proofs.Common.{ap, ◌∙◌, cond, arith}
 use Rattle.fn_rules.specs.declared.guard.Sort.TheVariants.{Pos}
 use Rattle.fn_rules.specs.declared.guard.Atom.{Atom}
 use Rattle.fn_rules.specs.declared.guard.Tightness.{Tightness}
@@ -10,9 +10,10 @@ use Rattle.fn_rules.specs.Formulas as formulas
 use Rattle.fn_tokens.specs.declared.token.Token.{Token}
 use Rattle.fn_tokens.specs.declared.token.Token.TheVariants.{Known, Open, Close}
 use Rattle.fn_tokens.specs.declared.token.Word.TheVariants as words
-use Rattle.fn_moves.specs.Meaning.{signed, to_formulas}
+use Rattle.fn_tokens.specs.Meaning.{signed, to_formulas}
 use Rattle.fn_grammar.specs.Print.{offset_tokens, atom_tokens, enclosed, and_is_enclosed, or_is_enclosed, guard_tokens}
-use Rattle.fn_grammar.specs.Grammar.{Phrase, Always, Compare, Shifted, Negated, Round, One, Both, Single, Either, written_as, made}
+use Rattle.fn_grammar.specs.Grammar.{Phrase, Always, Compare, Shifted, Negated, Round, One, Both, Single, Either}
+use Rattle.fn_grammar.specs.Grammar.{written_as, made}
 use Rattle.fn_grammar.specs.Theorems.{parentheses_in}
 
 parentheses_in-append : (xs ys : List Token) → parentheses_in (xs ++ ys) ≡ parentheses_in xs + parentheses_in ys
@@ -41,14 +42,16 @@ and_has : (t : Tightness) (g h : Formula) →
 and_has t g h =
     let inside = guard_tokens Joined g ++ Known words.And ∷ guard_tokens Tight h in
     enclosed_has (and_is_enclosed t) inside
-    ∙ ap (λ n. cond (and_is_enclosed t) 1 0 + n) (parentheses_in-append (guard_tokens Joined g) (Known words.And ∷ guard_tokens Tight h))
+    ∙ ap (λ n. cond (and_is_enclosed t) 1 0 + n)
+    (parentheses_in-append (guard_tokens Joined g) (Known words.And ∷ guard_tokens Tight h))
 
 or_has : (t : Tightness) (g h : Formula) →
     printed_in t (formulas.Or g h) ≡ cond (or_is_enclosed t) 1 0 + (printed_in Loose g + printed_in Joined h)
 or_has t g h =
     let inside = guard_tokens Loose g ++ Known words.Or ∷ guard_tokens Joined h in
     enclosed_has (or_is_enclosed t) inside
-    ∙ ap (λ n. cond (or_is_enclosed t) 1 0 + n) (parentheses_in-append (guard_tokens Loose g) (Known words.Or ∷ guard_tokens Joined h))
+    ∙ ap (λ n. cond (or_is_enclosed t) 1 0 + n)
+    (parentheses_in-append (guard_tokens Loose g) (Known words.Or ∷ guard_tokens Joined h))
 
 -- a tighter place asks for one pair more at most, and a looser one for none
 tight_in : (g : Formula) → printed_in Tight g ≤ 1 + printed_in Loose g
@@ -110,4 +113,5 @@ fewest Loose (Either d c) =
 
 pub fewest_parentheses : (g : Formula) (p : Phrase Loose) → made to_formulas p ≡ g →
     parentheses_in (guard_tokens Loose g) ≤ parentheses_in (written_as p)
-fewest_parentheses g p e = let less = fewest Loose p in let same = ap (λ x. printed_in Loose x) e in omega (arith, less, same)
+fewest_parentheses g p e = let less = fewest Loose p in let same = ap (λ x. printed_in Loose x) e in
+    omega (arith, less, same)

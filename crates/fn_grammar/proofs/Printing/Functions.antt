@@ -1,6 +1,6 @@
 -- The canonical text of a function within the limits is a text of the function.
-use Rattle.std.proofs.Common.{◌≡◌, ◌+◌, zero, suc, pos, negsuc, Bool, true, false, not, ◌&&◌, ◌||◌, List, [], ◌∷◌, ◌++◌, map}
-use Rattle.std.proofs.Common.{refl, sym, ap, ◌∙◌, cond, inl, inr, append_assoc, append-nil, nat_le, arith}
+use Rattle.std.proofs.Common.{◌≡◌, ◌+◌, zero, suc, pos, negsuc, Bool, true, false, not, ◌&&◌, ◌||◌, List, [], ◌∷◌, ◌++◌}
+use Rattle.std.proofs.Common.{map, refl, sym, ap, ◌∙◌, cond, inl, inr, append_assoc, append-nil, nat_le, arith}
 use Rattle.std.specs.List.{flat_map, list_all}
 use Rattle.std.proofs.lemmas.List.{length-map}
 use Rattle.std.proofs.lemmas.List.Folds.{list_all-append}
@@ -11,9 +11,9 @@ use Rattle.ot_model.specs.declared.op.TheConstants.{KINDS}
 use Rattle.ot_model.specs.Kinds.{is_same_kind}
 use Rattle.std.proofs.Math.Path.{fun_ext}
 use Rattle.std.proofs.lemmas.Bool.{and_parts, and_from, cases_Bool}
-use Rattle.fn_moves.specs.Kinds.{declares_some}
-use Rattle.fn_moves.specs.declared.language.Language.TheVariants.{One, Two}
-use Rattle.fn_moves.specs.Languages.{has_word, has_words, language_for}
+use Rattle.fn_tokens.specs.Kinds.{declares_some}
+use Rattle.fn_tokens.specs.declared.language.Language.TheVariants.{One, Two}
+use Rattle.fn_tokens.specs.Languages.{has_word, has_words, language_for}
 use Rattle.fn_rules.specs.declared.guard.Tightness.TheVariants.{Loose}
 use Rattle.fn_rules.specs.declared.function.Head.{Head}
 use Rattle.fn_rules.specs.declared.function.Res.{Res}
@@ -26,14 +26,14 @@ use Rattle.fn_tokens.specs.declared.token.Token.{Token}
 use Rattle.fn_tokens.specs.declared.token.Token.TheVariants.{Known, Colon, LineEnd, FileEnd}
 use Rattle.fn_tokens.specs.declared.token.Word.TheVariants as words
 use Rattle.fn_tokens.specs.declared.token.Sign.TheVariants as signs
-use Rattle.fn_moves.specs.declared.control.Written.{Written}
-use Rattle.fn_moves.specs.declared.control.Written.TheVariants as written
-use Rattle.fn_moves.specs.Meaning.{res_of, to_formulas}
-use Rattle.fn_grammar.specs.Print.{guard_tokens, result_tokens, case_tokens, block_tokens, present, head_tokens, declared_block}
-use Rattle.fn_grammar.specs.Print.{blocks_with, function_tokens, printed}
-use Rattle.fn_grammar.specs.Grammar.{WrittenCase, WrittenBlock, result_written_as, case_written_as, block_written_as, file_written_as}
-use Rattle.fn_grammar.specs.Grammar.{case_made, block_made, is_allowed_result, is_allowed_case, is_allowed_block, is_allowed_file}
-use Rattle.fn_grammar.specs.Grammar.{IsTextOf}
+use Rattle.fn_tokens.specs.declared.control.Written.{Written}
+use Rattle.fn_tokens.specs.declared.control.Written.TheVariants as written
+use Rattle.fn_tokens.specs.Meaning.{res_of, to_formulas}
+use Rattle.fn_grammar.specs.Print.{guard_tokens, result_tokens, case_tokens, block_tokens, present, head_tokens}
+use Rattle.fn_grammar.specs.Print.{declared_block, blocks_with, function_tokens, printed}
+use Rattle.fn_grammar.specs.Grammar.{WrittenCase, WrittenBlock, result_written_as, case_written_as, block_written_as}
+use Rattle.fn_grammar.specs.Grammar.{file_written_as, case_made, block_made, is_allowed_result, is_allowed_case}
+use Rattle.fn_grammar.specs.Grammar.{is_allowed_block, is_allowed_file, IsTextOf}
 use Rattle.fn_rules.proofs.LimitsKept.{are_valid_cases-valid, cases_of-undeclared}
 use Rattle.fn_tokens.proofs.LexesBack.{lines_lex}
 use Rattle.fn_grammar.proofs.Printing.Lines.{function_in_lines}
@@ -43,7 +43,8 @@ use Rattle.fn_grammar.proofs.Printing.Guards.{phrase_for, two_digits_up, two_dig
 
 -- the second language has all words
 has_words-two : (head : Head) → has_words Two head ≡ true
-has_words-two head = list_all_from (λ k. not (is_declared head k) || has_word Two k) KINDS (λ k. all (not (is_declared head k)))
+has_words-two head =
+    list_all_from (λ k. not (is_declared head k) || has_word Two k) KINDS (λ k. all (not (is_declared head k)))
   where
     all : (b : Bool) → (b || true) ≡ true
     all true = refl
@@ -86,7 +87,8 @@ result_allowed (results.Keep base (negsuc n)) h = two_digits_down n h
 abbrev case_for : GuardedCase → WrittenCase
 case_for c = record { guard = phrase_for Loose c.guard; result = result_for c.res }
 
-guard_is : (chars : Bool) (c : GuardedCase) → is_valid_case chars c ≡ true → IsPhraseOf chars (phrase_for Loose c.guard) c.guard
+guard_is : (chars : Bool) (c : GuardedCase) → is_valid_case chars c ≡ true
+    → IsPhraseOf chars (phrase_for Loose c.guard) c.guard
 guard_is chars c h = phrase_is chars Loose c.guard (and_parts _ _ (and_parts _ _ (and_parts _ _ h).0).0).0
 
 case_written : (chars : Bool) (kind : Kind) (c : GuardedCase) → is_valid_case chars c ≡ true →
@@ -96,19 +98,23 @@ case_written chars kind c h =
     (guard_is chars c h).written
     ∙ ap (λ x. Known words.Case ∷ guard_tokens Loose c.guard ++ Colon ∷ x ++ LineEnd ∷ []) (result_written kind c.res)
 
-case_made-case_for : (chars : Bool) (c : GuardedCase) → is_valid_case chars c ≡ true → case_made to_formulas (case_for c) ≡ c
+case_made-case_for : (chars : Bool) (c : GuardedCase) → is_valid_case chars c ≡ true
+    → case_made to_formulas (case_for c) ≡ c
 case_made-case_for chars c h =
     let guard_made = (guard_is chars c h).means in
     let result_made = res_of-result_for c.res in
-    ap (λ g. record { guard = g; res = res_of (result_for c.res) }) guard_made ∙ ap (λ r. record { guard = c.guard; res = r }) result_made
+    ap (λ g. record { guard = g; res = res_of (result_for c.res) }) guard_made
+    ∙ ap (λ r. record { guard = c.guard; res = r }) result_made
 
-case_allowed : (chars : Bool) (c : GuardedCase) → is_valid_case chars c ≡ true → is_allowed_case chars (case_for c) ≡ true
+case_allowed : (chars : Bool) (c : GuardedCase) → is_valid_case chars c ≡ true
+    → is_allowed_case chars (case_for c) ≡ true
 case_allowed chars c h =
     let guard = guard_is chars c h in
     let front = (and_parts _ _ (and_parts _ _ h).0).0 in
     and_from _ _ (and_from _ _ (and_from _ _ guard.allowed
     (ap (λ n. nat_le n 16) guard.counted ∙ (and_parts (has_valid_atoms chars c.guard) _ front).1))
-    (ap (λ n. nat_le n 32) guard.nested ∙ (and_parts _ _ (and_parts _ _ h).0).1)) (result_allowed c.res (and_parts _ _ h).1)
+    (ap (λ n. nat_le n 32) guard.nested ∙ (and_parts _ _ (and_parts _ _ h).0).1))
+    (result_allowed c.res (and_parts _ _ h).1)
 
 cases_written : (chars : Bool) (kind : Kind) (cs : List GuardedCase) → list_all (is_valid_case chars) cs ≡ true →
     flat_map (case_written_as kind) (map case_for cs) ≡ flat_map (case_tokens kind) cs
@@ -128,11 +134,13 @@ cases_allowed : (chars : Bool) (cs : List GuardedCase) → list_all (is_valid_ca
     list_all (is_allowed_case chars) (map case_for cs) ≡ true
 cases_allowed chars [] h = refl
 cases_allowed chars (c ∷ cs) h =
-    and_from _ _ (case_allowed chars c (and_parts _ _ h).0) (cases_allowed chars cs (and_parts (is_valid_case chars c) _ h).1)
+    and_from _ _ (case_allowed chars c (and_parts _ _ h).0)
+    (cases_allowed chars cs (and_parts (is_valid_case chars c) _ h).1)
 
 -- the block of a pair, if the pair is declared
 abbrev block_for : Function → Kind → Kind → List WrittenBlock
-block_for f k l = cond (is_declared_pair f.head k l) (record { first = k; second = l; cases = map case_for (cases_of f k l) } ∷ []) []
+block_for f k l =
+    cond (is_declared_pair f.head k l) (record { first = k; second = l; cases = map case_for (cases_of f k l) } ∷ []) []
 
 abbrev blocks_from : Function → Kind → List WrittenBlock
 blocks_from f k = flat_map (block_for f k) KINDS
@@ -144,7 +152,8 @@ blocks_for f = flat_map (blocks_from f) KINDS
 -- the blocks that are written of a function are those that its head asks for
 own_blocks : (mode : Mode) (ins del upd sites chars : Bool) (cases : Kind → Kind → List GuardedCase) →
     has_own_blocks (head_of mode ins del upd sites chars)
-    (map (block_made to_formulas) (blocks_for (record { head = head_of mode ins del upd sites chars; cases = cases }))) ≡ true
+    (map (block_made to_formulas) (blocks_for (record { head = head_of mode ins del upd sites chars; cases = cases })))
+    ≡ true
 own_blocks mode true true true sites chars cases = refl
 own_blocks mode true true false sites chars cases = refl
 own_blocks mode true false true sites chars cases = refl
@@ -155,10 +164,11 @@ own_blocks mode false false true sites chars cases = refl
 own_blocks mode false false false sites chars cases = refl
 
 function_has_own_blocks : (f : Function) → has_own_blocks f.head (map (block_made to_formulas) (blocks_for f)) ≡ true
-function_has_own_blocks f = own_blocks f.head.mode f.head.ins f.head.del f.head.upd f.head.sites_differ f.head.chars_differ f.cases
+function_has_own_blocks f =
+    own_blocks f.head.mode f.head.ins f.head.del f.head.upd f.head.sites_differ f.head.chars_differ f.cases
 
-flat_map-inside : {X Y Z : Type 0} (g : Y → List Z) (f : X → List Y) (h : X → List Z) (xs : List X) → ((x : X) → flat_map g (f x) ≡ h x) →
-    flat_map g (flat_map f xs) ≡ flat_map h xs
+flat_map-inside : {X Y Z : Type 0} (g : Y → List Z) (f : X → List Y) (h : X → List Z) (xs : List X)
+    → ((x : X) → flat_map g (f x) ≡ h x) → flat_map g (flat_map f xs) ≡ flat_map h xs
 flat_map-inside g f h [] each = refl
 flat_map-inside g f h (x ∷ xs) each =
     flat_map-append g (f x) (flat_map f xs)
@@ -167,17 +177,20 @@ flat_map-inside g f h (x ∷ xs) each =
 list_all-inside : {X Y : Type 0} (p : Y → Bool) (f : X → List Y) (xs : List X) → ((x : X) → list_all p (f x) ≡ true) →
     list_all p (flat_map f xs) ≡ true
 list_all-inside p f [] each = refl
-list_all-inside p f (x ∷ xs) each = list_all-append p (f x) (flat_map f xs) ∙ and_from _ _ (each x) (list_all-inside p f xs each)
+list_all-inside p f (x ∷ xs) each = list_all-append p (f x) (flat_map f xs)
+    ∙ and_from _ _ (each x) (list_all-inside p f xs each)
 
 regroup : (head blocks : List Token) →
-    head ++ blocks ++ Known words.End ∷ LineEnd ∷ [] ++ FileEnd ∷ [] ≡ head ++ blocks ++ Known words.End ∷ LineEnd ∷ FileEnd ∷ []
+    head ++ blocks ++ Known words.End ∷ LineEnd ∷ [] ++ FileEnd ∷ []
+    ≡ head ++ blocks ++ Known words.End ∷ LineEnd ∷ FileEnd ∷ []
 regroup head blocks = simp append_assoc
 
 -- the blocks for a pair are made into these cases
 module _ (k l : Kind) (cases : List GuardedCase) where
   abbrev Tell : List WrittenBlock → Type 0
   Tell [] = Unit {0}
-  Tell (block ∷ others) = (is_written_for k l block ≡ true → map (case_made to_formulas) block.cases ≡ cases) × Tell others
+  Tell (block ∷ others) =
+      (is_written_for k l block ≡ true → map (case_made to_formulas) block.cases ≡ cases) × Tell others
 
   tell_append : (xs ys : List WrittenBlock) → Tell xs → Tell ys → Tell (xs ++ ys)
   tell_append [] ys first then = then
@@ -187,7 +200,8 @@ module _ (k l : Kind) (cases : List GuardedCase) where
   tell_all g [] each = tt
   tell_all g (x ∷ xs) each = tell_append (g x) (flat_map g xs) (each x) (tell_all g xs each)
 
-  cases_in-none : (blocks : List WrittenBlock) → written_for k l blocks ≡ 0 → cases_in (map (block_made to_formulas) blocks) k l ≡ []
+  cases_in-none : (blocks : List WrittenBlock) → written_for k l blocks ≡ 0
+      → cases_in (map (block_made to_formulas) blocks) k l ≡ []
   cases_in-none [] none = refl
   cases_in-none (block ∷ others) none =
       elim (cases_Bool (is_written_for k l block)) [
@@ -216,13 +230,15 @@ module _ (f : Function) (valid : is_valid f ≡ true) where
   block_tells : (k l i j : Kind) → Tell k l (cases_of f k l) (block_for f i j)
   block_tells k l i j = one (is_declared_pair f.head i j)
     where
-      told : (is_same_kind i k && is_same_kind j l) ≡ true → map (case_made to_formulas) (map case_for (cases_of f i j)) ≡ cases_of f k l
+      told : (is_same_kind i k && is_same_kind j l) ≡ true
+          → map (case_made to_formulas) (map case_for (cases_of f i j)) ≡ cases_of f k l
       told same =
           cases_made (compares_chars i j) (cases_of f i j) (valid_cases i j)
           ∙ same_pair (λ x y. cases_of f i j ≡ cases_of f x y) i j k l same refl
 
       one : (declared : Bool) →
-          Tell k l (cases_of f k l) (cond declared (record { first = i; second = j; cases = map case_for (cases_of f i j) } ∷ []) [])
+          Tell k l (cases_of f k l)
+          (cond declared (record { first = i; second = j; cases = map case_for (cases_of f i j) } ∷ []) [])
       one true = (told, tt)
       one false = tt
 
@@ -279,8 +295,8 @@ module _ (f : Function) (valid : is_valid f ≡ true) where
   pair_allowed : (k l : Kind) → list_all is_allowed_block (block_for f k l) ≡ true
   pair_allowed k l =
       one_allowed (is_declared_pair f.head k l) record { first = k; second = l; cases = map case_for (cases_of f k l) }
-      (and_from _ _ (ap (λ n. nat_le n 64) (length-map (cases_of f k l) case_for) ∙ (and_parts _ _ (are_valid_cases-valid f k l valid)).0)
-      (cases_allowed (compares_chars k l) (cases_of f k l) (valid_cases k l)))
+      (and_from _ _ (ap (λ n. nat_le n 64) (length-map (cases_of f k l) case_for) ∙ (and_parts _ _
+      (are_valid_cases-valid f k l valid)).0) (cases_allowed (compares_chars k l) (cases_of f k l) (valid_cases k l)))
 
   file_allowed : is_allowed_file (language_for f.head) f.head (blocks_for f) ≡ true
   file_allowed =

@@ -1,5 +1,6 @@
 -- The canonical text of a guard is written by a phrase that means the guard.
-use Rattle.std.proofs.Common.{◌≡◌, ℕ, zero, suc, ◌+◌, ℤ, pos, negsuc, Bool, true, ◌∷◌, ◌++◌, refl, sym, ap, ◌∙◌, nat_le, arith}
+use Rattle.std.proofs.Common.{◌≡◌, ℕ, zero, suc, ◌+◌, ℤ, pos, negsuc, Bool, true, ◌∷◌, ◌++◌, refl, sym, ap, ◌∙◌, nat_le}
+use Rattle.std.proofs.Common.{arith}
 use Rattle.std.specs.Ordering.{int_eq}
 use Rattle.std.proofs.lemmas.Bool.{false≢true, and_parts, and_from}
 use Rattle.std.proofs.lemmas.Bool.Decides.{nat_tests}
@@ -15,10 +16,10 @@ use Rattle.fn_rules.specs.Validity.{is_offset, is_offset_for, has_valid_atoms, a
 use Rattle.fn_tokens.specs.declared.token.Token.TheVariants.{Known}
 use Rattle.fn_tokens.specs.declared.token.Word.TheVariants as words
 use Rattle.fn_tokens.specs.declared.token.Sign.TheVariants as signs
-use Rattle.fn_moves.specs.Meaning.{to_formulas}
+use Rattle.fn_tokens.specs.Meaning.{to_formulas}
 use Rattle.fn_grammar.specs.Print.{enclosed, guard_tokens}
-use Rattle.fn_grammar.specs.Grammar.{Phrase, Always, Compare, Shifted, Negated, Round, One, Both, Single, Either, written_as, made}
-use Rattle.fn_grammar.specs.Grammar.{atoms_in, nesting_in, is_allowed_phrase}
+use Rattle.fn_grammar.specs.Grammar.{Phrase, Always, Compare, Shifted, Negated, Round, One, Both, Single, Either}
+use Rattle.fn_grammar.specs.Grammar.{written_as, made, atoms_in, nesting_in, is_allowed_phrase}
 
 -- an atom as a phrase, with an offset where there is one
 abbrev pub atom_phrase : Sort → Side → Cmp → ℤ → Phrase Tight
@@ -52,8 +53,8 @@ phrase_for t (formulas.And g h) = joined_at t (Both (phrase_for Joined g) (phras
 phrase_for t (formulas.Or g h) = loose_at t (Either (phrase_for Loose g) (phrase_for Joined h))
 phrase_for t (formulas.Not g) = tight_at t (Negated (phrase_for Tight g))
 
--- a phrase is the one of a guard at a place: it is written as the guard's canonical text, means the guard, is allowed, and
--- has the atoms of the guard and the nesting of its canonical text
+-- a phrase is the one of a guard at a place: it is written as the guard's canonical text, means the guard, is allowed,
+-- and has the atoms of the guard and the nesting of its canonical text
 pub record IsPhraseOf {t : Tightness} (chars : Bool) (p : Phrase t) (g : Formula) : Type 0 where
   pub written : written_as p ≡ guard_tokens t g
   pub means : made to_formulas p ≡ g
@@ -66,9 +67,21 @@ tight_is : (chars : Bool) (t : Tightness) (u : Phrase Tight) (g : Formula) → g
     nesting_of t g ≡ nesting_of Tight g → IsPhraseOf chars u g → IsPhraseOf chars (tight_at t u) g
 tight_is chars Tight u g same depth p = p
 tight_is chars Joined u g same depth p =
-    record { written = p.written ∙ sym same; means = p.means; allowed = p.allowed; counted = p.counted; nested = p.nested ∙ sym depth }
+    record {
+      written = p.written ∙ sym same;
+      means = p.means;
+      allowed = p.allowed;
+      counted = p.counted;
+      nested = p.nested ∙ sym depth;
+    }
 tight_is chars Loose u g same depth p =
-    record { written = p.written ∙ sym same; means = p.means; allowed = p.allowed; counted = p.counted; nested = p.nested ∙ sym depth }
+    record {
+      written = p.written ∙ sym same;
+      means = p.means;
+      allowed = p.allowed;
+      counted = p.counted;
+      nested = p.nested ∙ sym depth;
+    }
 
 -- an `and` and an `or`, in parentheses where the place asks for them
 joined_is : (chars : Bool) (t : Tightness) (c : Phrase Joined) (g h : Formula) → IsPhraseOf chars c (formulas.And g h) →
@@ -126,7 +139,8 @@ compared sort left cmp k = formulas.Compare record { sort = sort; left = left; c
 -- the phrase of an atom, with an offset where it has one
 atom_is : (chars : Bool) (sort : Sort) (left : Side) (cmp : Cmp) (k : ℤ) → is_offset_for chars sort k ≡ true →
     IsPhraseOf chars (atom_phrase sort left cmp k) (compared sort left cmp k)
-atom_is chars Pos left cmp (pos zero) h = record { written = refl; means = refl; allowed = refl; counted = refl; nested = refl }
+atom_is chars Pos left cmp (pos zero) h =
+    record { written = refl; means = refl; allowed = refl; counted = refl; nested = refl }
 atom_is chars Pos left cmp (pos (suc n)) h =
     record { written = refl; means = refl; allowed = two_digits_up (suc n) h; counted = refl; nested = refl }
 atom_is chars Pos left cmp (negsuc n) h =
@@ -151,8 +165,8 @@ atom_is chars Char left cmp k h =
     }
 
 -- phrases of two guards with `and` between them are a phrase of their `and`
-both_is : (chars : Bool) (c : Phrase Joined) (u : Phrase Tight) (g h : Formula) → IsPhraseOf chars c g → IsPhraseOf chars u h →
-    IsPhraseOf chars (Both c u) (formulas.And g h)
+both_is : (chars : Bool) (c : Phrase Joined) (u : Phrase Tight) (g h : Formula) → IsPhraseOf chars c g
+    → IsPhraseOf chars u h → IsPhraseOf chars (Both c u) (formulas.And g h)
 both_is chars c u g h first second =
     let atoms = first.counted in
     let more = second.counted in
@@ -168,8 +182,8 @@ both_is chars c u g h first second =
     }
 
 -- phrases of two guards with `or` between them are a phrase of their `or`
-either_is : (chars : Bool) (d : Phrase Loose) (c : Phrase Joined) (g h : Formula) → IsPhraseOf chars d g → IsPhraseOf chars c h →
-    IsPhraseOf chars (Either d c) (formulas.Or g h)
+either_is : (chars : Bool) (d : Phrase Loose) (c : Phrase Joined) (g h : Formula) → IsPhraseOf chars d g
+    → IsPhraseOf chars c h → IsPhraseOf chars (Either d c) (formulas.Or g h)
 either_is chars d c g h first second =
     let atoms = first.counted in
     let more = second.counted in
@@ -184,7 +198,8 @@ either_is chars d c g h first second =
       nested = omega (arith, depth, deeper);
     }
 
-negated_is : (chars : Bool) (u : Phrase Tight) (g : Formula) → IsPhraseOf chars u g → IsPhraseOf chars (Negated u) (formulas.Not g)
+negated_is : (chars : Bool) (u : Phrase Tight) (g : Formula) → IsPhraseOf chars u g
+    → IsPhraseOf chars (Negated u) (formulas.Not g)
 negated_is chars u g p = record {
   written = ap (λ ts. Known words.Not ∷ ts) p.written;
   means = ap (λ x. formulas.Not x) p.means;
@@ -194,7 +209,8 @@ negated_is chars u g p = record {
 }
 
 -- the phrase of a guard with valid atoms is one of it at each place
-pub phrase_is : (chars : Bool) (t : Tightness) (g : Formula) → has_valid_atoms chars g ≡ true → IsPhraseOf chars (phrase_for t g) g
+pub phrase_is : (chars : Bool) (t : Tightness) (g : Formula) → has_valid_atoms chars g ≡ true
+    → IsPhraseOf chars (phrase_for t g) g
 phrase_is chars t formulas.Always h =
     tight_is chars t Always formulas.Always refl refl
     record { written = refl; means = refl; allowed = refl; counted = refl; nested = refl }

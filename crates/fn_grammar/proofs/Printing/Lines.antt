@@ -1,6 +1,7 @@
 -- The tokens of a function within the limits stand in whole lines.
 use Rattle.std.proofs.lemmas.Bool.{and_parts}
-use Rattle.std.proofs.Common.{◌≡◌, zero, suc, ◌≤◌, ℤ, pos, negsuc, Bool, true, false, List, [], ◌∷◌, ◌++◌, refl, append_assoc, lit≤}
+use Rattle.std.proofs.Common.{◌≡◌, zero, suc, ◌≤◌, ℤ, pos, negsuc, Bool, true, false, List, [], ◌∷◌, ◌++◌, refl}
+use Rattle.std.proofs.Common.{append_assoc, lit≤}
 use Rattle.std.specs.Prelude.{unsigned_abs}
 use Rattle.std.specs.List.{flat_map, list_all}
 use Rattle.ot_model.specs.declared.op.Mode.{Mode}
@@ -21,13 +22,13 @@ use Rattle.fn_tokens.specs.declared.token.Token.{Token}
 use Rattle.fn_tokens.specs.declared.token.Token.TheVariants.{Known, Close, Colon, LineEnd}
 use Rattle.fn_tokens.specs.declared.token.Word.{Word}
 use Rattle.fn_tokens.specs.declared.token.Word.TheVariants as words
-use Rattle.fn_moves.specs.declared.language.Language.{Language}
-use Rattle.fn_moves.specs.declared.language.Language.TheVariants.{One, Two}
-use Rattle.fn_moves.specs.Languages.{number_of, language_for}
+use Rattle.fn_tokens.specs.declared.language.Language.{Language}
+use Rattle.fn_tokens.specs.declared.language.Language.TheVariants.{One, Two}
+use Rattle.fn_tokens.specs.Languages.{number_of, language_for}
 use Rattle.fn_grammar.specs.Offsets.{HasOffset, HasOffsets, HasResultOffset, HasCaseOffsets}
-use Rattle.fn_grammar.specs.Print.{offset_tokens, atom_tokens, enclosed, and_is_enclosed, or_is_enclosed, guard_tokens, result_tokens}
-use Rattle.fn_grammar.specs.Print.{case_tokens, block_tokens, present, assumption_tokens, first_lines, kind_tokens, head_tokens}
-use Rattle.fn_grammar.specs.Print.{declared_block, blocks_with, function_tokens}
+use Rattle.fn_grammar.specs.Print.{offset_tokens, atom_tokens, enclosed, and_is_enclosed, or_is_enclosed, guard_tokens}
+use Rattle.fn_grammar.specs.Print.{result_tokens, case_tokens, block_tokens, present, assumption_tokens, first_lines}
+use Rattle.fn_grammar.specs.Print.{kind_tokens, head_tokens, declared_block, blocks_with, function_tokens}
 use Rattle.fn_grammar.proofs.Printing.Offsets.{case_has_offsets}
 use Rattle.fn_rules.proofs.LimitsKept.{are_valid_cases-valid}
 use Rattle.fn_tokens.specs.Spelling.{InLines}
@@ -52,7 +53,8 @@ atom_leads a h = λ rest l.
     (tt, (tt, (tt, offset_leads a.k h rest l)))
 
 -- tokens in parentheses do
-enclosed_leads : (parentheses : Bool) (xs : List Token) → Leads false xs false → Leads false (enclosed parentheses xs) false
+enclosed_leads : (parentheses : Bool) (xs : List Token) → Leads false xs false
+    → Leads false (enclosed parentheses xs) false
 enclosed_leads true xs f = λ rest l. (tt, leads_then false false false xs (Close ∷ []) f (λ r m. (tt, m)) rest l)
 enclosed_leads false xs f = f
 
@@ -60,15 +62,16 @@ enclosed_leads false xs f = f
 joined_leads : (parentheses : Bool) (word : Word) (xs ys : List Token) → Leads false xs false → Leads false ys false →
     Leads false (enclosed parentheses (xs ++ Known word ∷ ys)) false
 joined_leads parentheses word xs ys f g =
-    enclosed_leads parentheses (xs ++ Known word ∷ ys) (leads_then false false false xs (Known word ∷ ys) f (λ r m. (tt, g r m)))
+    enclosed_leads parentheses (xs ++ Known word ∷ ys)
+    (leads_then false false false xs (Known word ∷ ys) f (λ r m. (tt, g r m)))
 
 -- a guard does
 guard_leads : (at : Tightness) (g : Formula) → HasOffsets g → Leads false (guard_tokens at g) false
 guard_leads at Always h = λ rest l. (tt, l)
 guard_leads at (Compare atom) h = atom_leads atom h
 guard_leads at (And g k) h =
-    joined_leads (and_is_enclosed at) words.And (guard_tokens Joined g) (guard_tokens Tight k) (guard_leads Joined g h.0)
-    (guard_leads Tight k h.1)
+    joined_leads (and_is_enclosed at) words.And (guard_tokens Joined g) (guard_tokens Tight k)
+    (guard_leads Joined g h.0) (guard_leads Tight k h.1)
 guard_leads at (Or g k) h =
     joined_leads (or_is_enclosed at) words.Or (guard_tokens Loose g) (guard_tokens Joined k) (guard_leads Loose g h.0)
     (guard_leads Joined k h.1)
@@ -82,7 +85,8 @@ result_leads kind results.Nop h = λ rest l. (tt, l)
 -- a case is a whole line
 case_leads : (kind : Kind) (c : GuardedCase) → HasCaseOffsets c → Leads true (case_tokens kind c) true
 case_leads kind c h =
-    leads_then true false true (Known words.Case ∷ guard_tokens Loose c.guard ++ Colon ∷ result_tokens kind c.res) (LineEnd ∷ [])
+    leads_then true false true (Known words.Case ∷ guard_tokens Loose c.guard ++ Colon ∷ result_tokens kind c.res)
+    (LineEnd ∷ [])
     (leads_then true false false (Known words.Case ∷ guard_tokens Loose c.guard) (Colon ∷ result_tokens kind c.res)
     (λ r m. (tt, guard_leads Loose c.guard h.0 r m))
     (λ r m. (tt, result_leads kind c.res h.1 r m)))
@@ -94,8 +98,8 @@ cases_lead : (chars : Bool) (kind : Kind) (cs : List GuardedCase) → list_all (
 cases_lead chars kind [] h = λ rest l. l
 cases_lead chars kind (c ∷ cs) h =
     leads_then true true true (case_tokens kind c) (flat_map (case_tokens kind) cs)
-    (case_leads kind c (case_has_offsets chars c (and_parts (is_valid_case chars c) (list_all (is_valid_case chars) cs) h).0))
-    (cases_lead chars kind cs (and_parts (is_valid_case chars c) (list_all (is_valid_case chars) cs) h).1)
+    (case_leads kind c (case_has_offsets chars c (and_parts (is_valid_case chars c) (list_all (is_valid_case chars) cs)
+    h).0)) (cases_lead chars kind cs (and_parts (is_valid_case chars c) (list_all (is_valid_case chars) cs) h).1)
 
 -- tokens that may be absent stand as they do where they are present
 present_leads : (begins test : Bool) (xs : List Token) → Leads begins xs begins → Leads begins (present test xs) begins
@@ -113,7 +117,11 @@ block_leads f k l valid =
         tt,
         (
           tt,
-          (refl, cases_lead (compares_chars k l) k (cases_of f k l) (and_parts _ _ (are_valid_cases-valid f k l valid)).1 r m),
+          (
+            refl,
+            cases_lead (compares_chars k l) k (cases_of f k l)
+                (and_parts _ _ (are_valid_cases-valid f k l valid)).1 r m,
+          ),
         ),
       ),
     ))
@@ -130,7 +138,8 @@ mode_leads mode = λ r m. (tt, (tt, (refl, m)))
 all_lead : {X : Type 0} (begins : Bool) (g : X → List Token) (xs : List X) → ((x : X) → Leads begins (g x) begins) →
     Leads begins (flat_map g xs) begins
 all_lead begins g [] each = λ rest l. l
-all_lead begins g (x ∷ xs) each = leads_then begins begins begins (g x) (flat_map g xs) (each x) (all_lead begins g xs each)
+all_lead begins g (x ∷ xs) each =
+    leads_then begins begins begins (g x) (flat_map g xs) (each x) (all_lead begins g xs each)
 
 -- the line of the kinds, up to its end, and what stands before it
 abbrev kinds_part : Language → Head → List Token
@@ -155,11 +164,11 @@ kinds_lead language head =
 head_leads : (language : Language) (head : Head) → Leads true (head_tokens language head) true
 unfolding head_tokens
 head_leads language head =
-    leads_then true true true (kinds_part language head ++ LineEnd ∷ [] ++ assumption_tokens head.sites_differ words.Sites)
-    (assumption_tokens head.chars_differ words.Chars)
-    (leads_then true true true (kinds_part language head ++ LineEnd ∷ []) (assumption_tokens head.sites_differ words.Sites)
-    (leads_then true false true (kinds_part language head) (LineEnd ∷ []) (kinds_lead language head) (λ r m. (refl, m)))
-    (assumption_leads head.sites_differ words.Sites))
+    leads_then true true true (kinds_part language head ++ LineEnd ∷ []
+    ++ assumption_tokens head.sites_differ words.Sites) (assumption_tokens head.chars_differ words.Chars)
+    (leads_then true true true (kinds_part language head ++ LineEnd ∷ [])
+    (assumption_tokens head.sites_differ words.Sites) (leads_then true false true (kinds_part language head)
+    (LineEnd ∷ []) (kinds_lead language head) (λ r m. (refl, m))) (assumption_leads head.sites_differ words.Sites))
     (assumption_leads head.chars_differ words.Chars)
 
 -- a function is in whole lines

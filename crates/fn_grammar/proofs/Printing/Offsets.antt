@@ -14,8 +14,8 @@ use Rattle.fn_rules.specs.declared.function.Res.TheVariants as results
 use Rattle.fn_rules.specs.declared.function.Case.{Case}
 use Rattle.fn_rules.specs.Formulas.{Formula, Always, Compare, And, Or, Not}
 use Rattle.fn_rules.specs.Functions.{Function, GuardedCase, case_of, cases_of}
-use Rattle.fn_rules.specs.Validity.{is_offset, is_offset_for, has_valid_atoms, is_valid_res, is_valid_case, compares_chars}
-use Rattle.fn_rules.specs.Validity.{is_valid}
+use Rattle.fn_rules.specs.Validity.{is_offset, is_offset_for, has_valid_atoms, is_valid_res, is_valid_case}
+use Rattle.fn_rules.specs.Validity.{compares_chars, is_valid}
 use Rattle.fn_rules.proofs.LimitsKept.{are_valid_cases-valid}
 use Rattle.fn_grammar.specs.Offsets.{HasOffsets, HasResultOffset, HasCaseOffsets}
 
@@ -39,10 +39,14 @@ offset_for_size chars Char k h = zero_size k (and_parts chars _ h).1
 guard_has_offsets : (chars : Bool) (g : Formula) → has_valid_atoms chars g ≡ true → HasOffsets g
 guard_has_offsets chars Always h = tt
 guard_has_offsets chars (Compare atom) h = offset_for_size chars atom.sort atom.k h
-guard_has_offsets chars (And g k) h =
-    (guard_has_offsets chars g (and_parts _ _ h).0, guard_has_offsets chars k (and_parts (has_valid_atoms chars g) _ h).1)
-guard_has_offsets chars (Or g k) h =
-    (guard_has_offsets chars g (and_parts _ _ h).0, guard_has_offsets chars k (and_parts (has_valid_atoms chars g) _ h).1)
+guard_has_offsets chars (And g k) h = (
+  guard_has_offsets chars g (and_parts _ _ h).0,
+  guard_has_offsets chars k (and_parts (has_valid_atoms chars g) _ h).1,
+)
+guard_has_offsets chars (Or g k) h = (
+  guard_has_offsets chars g (and_parts _ _ h).0,
+  guard_has_offsets chars k (and_parts (has_valid_atoms chars g) _ h).1,
+)
 guard_has_offsets chars (Not g) h = guard_has_offsets chars g h
 
 -- a result within the limits has no long offset
@@ -52,8 +56,10 @@ result_has_offset results.Nop h = tt
 
 -- nor has a case
 pub case_has_offsets : (chars : Bool) (c : GuardedCase) → is_valid_case chars c ≡ true → HasCaseOffsets c
-case_has_offsets chars c h =
-    (guard_has_offsets chars c.guard (and_parts _ _ (and_parts _ _ (and_parts _ _ h).0).0).0, result_has_offset c.res (and_parts _ _ h).1)
+case_has_offsets chars c h = (
+  guard_has_offsets chars c.guard (and_parts _ _ (and_parts _ _ (and_parts _ _ h).0).0).0,
+  result_has_offset c.res (and_parts _ _ h).1,
+)
 
 -- nor have the cases of a block
 cases_have_offsets : (chars : Bool) (cs : List Case) → list_all (is_valid_case chars) (map case_of cs) ≡ true →
@@ -64,8 +70,8 @@ cases_have_offsets chars (c ∷ cs) h =
     (cases_have_offsets chars cs (and_parts _ _ h).1)
 
 -- so its cases have no long offsets
-pub block_has_offsets : (f : Function) (k l : Kind) (cs : List Case) → is_valid f ≡ true → map case_of cs ≡ cases_of f k l →
-    All (λ c. HasCaseOffsets (case_of c)) cs
+pub block_has_offsets : (f : Function) (k l : Kind) (cs : List Case) → is_valid f ≡ true
+    → map case_of cs ≡ cases_of f k l → All (λ c. HasCaseOffsets (case_of c)) cs
 block_has_offsets f k l cs h e =
     cases_have_offsets (compares_chars k l) cs
     (ap (list_all (is_valid_case (compares_chars k l))) e ∙ (and_parts _ _ (are_valid_cases-valid f k l h)).1)

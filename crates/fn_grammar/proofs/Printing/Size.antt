@@ -1,6 +1,6 @@
 -- The canonical text of a function within the limits is short.
-use Rattle.std.proofs.Common.{◌≡◌, ℕ, zero, suc, ◌+◌, ◌*◌, ◌^◌, ◌<◌, ◌≤◌, ℤ, pos, negsuc, Bool, true, false, List, [], ◌∷◌, ◌++◌}
-use Rattle.std.proofs.Common.{length, cond, refl, length-append, arith}
+use Rattle.std.proofs.Common.{◌≡◌, ℕ, zero, suc, ◌+◌, ◌*◌, ◌^◌, ◌<◌, ◌≤◌, ℤ, pos, negsuc, Bool, true, false, List, []}
+use Rattle.std.proofs.Common.{◌∷◌, ◌++◌, length, cond, refl, length-append, arith}
 use Rattle.std.specs.List.{flat_map, list_all}
 use Rattle.std.proofs.lemmas.Bool.{and_parts, leb-true}
 use Rattle.std.proofs.Math.Nat.{suc-mul}
@@ -14,18 +14,19 @@ use Rattle.fn_rules.specs.declared.function.Head.{Head}
 use Rattle.fn_rules.specs.Formulas.{Formula}
 use Rattle.fn_rules.specs.Formulas as formulas
 use Rattle.fn_rules.specs.Functions.{Function, GuardedCase, cases_of, is_declared, is_declared_pair}
-use Rattle.fn_rules.specs.Validity.{is_valid, is_valid_case, compares_chars, atoms_of, nesting_of, parentheses_of_or, parentheses_of_and}
+use Rattle.fn_rules.specs.Validity.{is_valid, is_valid_case, compares_chars, atoms_of, nesting_of, parentheses_of_or}
+use Rattle.fn_rules.specs.Validity.{parentheses_of_and}
 use Rattle.fn_rules.proofs.LimitsKept.{are_valid_cases-valid}
 use Rattle.fn_tokens.specs.declared.token.Token.{Token}
 use Rattle.fn_tokens.specs.declared.token.Token.TheVariants.{Known, Close, Colon, LineEnd}
 use Rattle.fn_tokens.specs.declared.token.Word.{Word}
 use Rattle.fn_tokens.specs.declared.token.Word.TheVariants as words
 use Rattle.fn_tokens.proofs.Size.{spelled_size}
-use Rattle.fn_moves.specs.declared.language.Language.{Language}
-use Rattle.fn_moves.specs.Languages.{language_for}
-use Rattle.fn_grammar.specs.Print.{offset_tokens, enclosed, and_is_enclosed, or_is_enclosed, guard_tokens, result_tokens, case_tokens}
-use Rattle.fn_grammar.specs.Print.{block_tokens, present, assumption_tokens, first_lines, kind_tokens, head_tokens, declared_block}
-use Rattle.fn_grammar.specs.Print.{blocks_with, function_tokens, printed}
+use Rattle.fn_tokens.specs.declared.language.Language.{Language}
+use Rattle.fn_tokens.specs.Languages.{language_for}
+use Rattle.fn_grammar.specs.Print.{offset_tokens, enclosed, and_is_enclosed, or_is_enclosed, guard_tokens}
+use Rattle.fn_grammar.specs.Print.{result_tokens, case_tokens, block_tokens, present, assumption_tokens, first_lines}
+use Rattle.fn_grammar.specs.Print.{kind_tokens, head_tokens, declared_block, blocks_with, function_tokens, printed}
 use Rattle.fn_grammar.proofs.Printing.Lines.{function_in_lines}
 
 offset_size : (k : ℤ) → length (offset_tokens k) ≤ 2
@@ -82,7 +83,8 @@ result_size : (kind : Kind) (res : Res) → length (result_tokens kind res) ≤ 
 result_size kind (results.Keep base k) = let offset = offset_size k in omega (arith, offset)
 result_size kind results.Nop = omega arith
 
-case_size : (chars : Bool) (kind : Kind) (c : GuardedCase) → is_valid_case chars c ≡ true → length (case_tokens kind c) ≤ 1200
+case_size : (chars : Bool) (kind : Kind) (c : GuardedCase) → is_valid_case chars c ≡ true
+    → length (case_tokens kind c) ≤ 1200
 case_size chars kind c valid =
     let front = (and_parts _ _ valid).0 in
     let shallow : nesting_of Loose c.guard ≤ 32 = leb-true _ _ (and_parts _ _ front).1 in
@@ -90,7 +92,8 @@ case_size chars kind c valid =
     let guard = guard_size 0 Loose c.guard (omega (arith, shallow)) in
     let result = result_size kind c.res in
     let one = length-append (Known words.Case ∷ guard_tokens Loose c.guard) (Colon ∷ result_tokens kind c.res) in
-    let whole = length-append (Known words.Case ∷ guard_tokens Loose c.guard ++ Colon ∷ result_tokens kind c.res) (LineEnd ∷ []) in
+    let whole = length-append (Known words.Case ∷ guard_tokens Loose c.guard ++ Colon ∷ result_tokens kind c.res)
+    (LineEnd ∷ []) in
     omega (arith, guard, few, result, one, whole)
 
 cases_size : (chars : Bool) (kind : Kind) (cs : List GuardedCase) → list_all (is_valid_case chars) cs ≡ true →
@@ -108,7 +111,8 @@ present_size true tokens = omega arith
 present_size false tokens = omega arith
 
 -- what each of a list gives is no longer, so all of it is short
-each_size : {X : Type 0} (m : ℕ) (g : X → List Token) (xs : List X) → ((x : X) → length (g x) ≤ m) → length (flat_map g xs) ≤ length xs * m
+each_size : {X : Type 0} (m : ℕ) (g : X → List Token) (xs : List X) → ((x : X) → length (g x) ≤ m)
+    → length (flat_map g xs) ≤ length xs * m
 each_size m g [] each = omega arith
 each_size m g (x ∷ xs) each =
     let here = each x in
@@ -131,9 +135,12 @@ block_size f valid k l =
 head_size : (language : Language) (head : Head) → length (head_tokens language head) ≤ 100
 unfolding head_tokens
 head_size language head =
-    let kinds = each_size 1 (kind_tokens head) KINDS (λ k. present_size (is_declared head k) (Known (words.Kind k) ∷ [])) in
-    let sites = present_size head.sites_differ (Known words.Assume ∷ Known words.Sites ∷ Known words.Differ ∷ LineEnd ∷ []) in
-    let chars = present_size head.chars_differ (Known words.Assume ∷ Known words.Chars ∷ Known words.Differ ∷ LineEnd ∷ []) in
+    let kinds = each_size 1 (kind_tokens head) KINDS
+    (λ k. present_size (is_declared head k) (Known (words.Kind k) ∷ [])) in
+    let sites = present_size head.sites_differ
+    (Known words.Assume ∷ Known words.Sites ∷ Known words.Differ ∷ LineEnd ∷ []) in
+    let chars = present_size head.chars_differ
+    (Known words.Assume ∷ Known words.Chars ∷ Known words.Differ ∷ LineEnd ∷ []) in
     let line = first_lines language head.mode ++ Known words.Kinds ∷ flat_map (kind_tokens head) KINDS in
     let one = length-append (first_lines language head.mode) (Known words.Kinds ∷ flat_map (kind_tokens head) KINDS) in
     let two = length-append line (LineEnd ∷ []) in

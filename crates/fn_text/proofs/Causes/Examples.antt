@@ -1,5 +1,5 @@
--- Causes by hand, from the table of docs/LANGUAGE.md: behind the tokens of a front, in the order in which they are written, the
--- next token is refused for this cause.
+-- Causes by hand, from the table of docs/LANGUAGE.md: behind the tokens of a front, in the order in which they
+-- are written, the next token is refused for this cause.
 use Rattle.std.proofs.Common.{◌≡◌, ℕ, zero, suc, List, [], ◌∷◌, ◌++◌, map, reverse, refl}
 use Rattle.ot_model.specs.declared.op.Kind.TheVariants.{Ins, Del, Upd}
 use Rattle.ot_model.specs.declared.op.Mode.TheVariants.{Plain}
@@ -11,8 +11,8 @@ use Rattle.fn_tokens.specs.declared.token.Token.TheVariants as tokens
 use Rattle.fn_tokens.specs.declared.token.Token.TheVariants.{Number, Open, Close, Colon, LineEnd}
 use Rattle.fn_tokens.specs.declared.token.Word.TheVariants as words
 use Rattle.fn_tokens.specs.declared.token.Sign.TheVariants as signs
-use Rattle.fn_moves.specs.declared.fault.FaultKind.{FaultKind}
-use Rattle.fn_moves.specs.declared.fault.FaultKind.TheVariants as faults
+use Rattle.fn_tokens.specs.declared.fault.FaultKind.{FaultKind}
+use Rattle.fn_tokens.specs.declared.fault.FaultKind.TheVariants as faults
 use Rattle.fn_text.specs.Causes.{cause_of}
 
 abbrev word_true : Token
@@ -79,7 +79,8 @@ version_line = tokens.Known words.Otfn ∷ Number 1 ∷ LineEnd ∷ []
 abbrev head_in : ℕ → List Token → List Token
 head_in number names =
     tokens.Known words.Otfn ∷ Number number ∷ LineEnd
-    ∷ tokens.Known words.Text ∷ tokens.Known (words.Mode Plain) ∷ LineEnd ∷ tokens.Known words.Kinds ∷ (names ++ LineEnd ∷ [])
+    ∷ tokens.Known words.Text ∷ tokens.Known (words.Mode Plain) ∷ LineEnd ∷ tokens.Known words.Kinds
+    ∷ (names ++ LineEnd ∷ [])
 
 abbrev head : List Token → List Token
 head names = head_in 1 names
@@ -270,7 +271,11 @@ ends : Told both
     ∷ (block ins ins, word_end, faults.Missing)
     ∷ (block ins ins ++ word_case ∷ [], word_end, faults.Expected)
     ∷ (word_block ∷ [], word_end, faults.Expected)
-    ∷ (block ins ins ++ block ins del ++ block del ins ++ block del del ++ word_end ∷ LineEnd ∷ [], word_end, faults.Expected)
+    ∷ (
+      block ins ins ++ block ins del ++ block del ins ++ block del del ++ word_end ∷ LineEnd ∷ [],
+      word_end,
+      faults.Expected,
+    )
     ∷ [])
 ends = refl
 
@@ -278,7 +283,11 @@ ends = refl
 early_ends : Told []
     (([], word_end, faults.Expected)
     ∷ (version_line, word_end, faults.Expected)
-    ∷ (version_line ++ tokens.Known words.Text ∷ tokens.Known (words.Mode Plain) ∷ LineEnd ∷ [], word_end, faults.Expected)
+    ∷ (
+      version_line ++ tokens.Known words.Text ∷ tokens.Known (words.Mode Plain) ∷ LineEnd ∷ [],
+      word_end,
+      faults.Expected,
+    )
     ∷ [])
 early_ends = refl
 

@@ -8,19 +8,19 @@ use Rattle.fn_rules.specs.declared.guard.Tightness.{Tightness}
 use Rattle.fn_tokens.specs.declared.token.Token.{Token}
 use Rattle.fn_tokens.specs.declared.token.Placed.{Placed}
 use Rattle.fn_tokens.specs.Tokens.{bare}
-use Rattle.fn_moves.specs.declared.fault.TextFault.{TextFault}
-use Rattle.fn_moves.specs.declared.fault.FaultKind.{FaultKind}
-use Rattle.fn_moves.specs.declared.fault.FaultKind.TheVariants as faults
-use Rattle.fn_moves.specs.declared.control.Want.{Want}
-use Rattle.fn_moves.specs.declared.control.Want.TheVariants as wants
-use Rattle.fn_moves.specs.declared.control.Control.{Control}
-use Rattle.fn_moves.specs.declared.control.TokenMove.{TokenMove}
-use Rattle.fn_moves.specs.Controls.{lacks_with, lacks_block}
-use Rattle.fn_moves.specs.Kinds.{has_seen}
+use Rattle.fn_tokens.specs.declared.fault.TextFault.{TextFault}
+use Rattle.fn_tokens.specs.declared.fault.FaultKind.{FaultKind}
+use Rattle.fn_tokens.specs.declared.fault.FaultKind.TheVariants as faults
+use Rattle.fn_tokens.specs.declared.control.Want.{Want}
+use Rattle.fn_tokens.specs.declared.control.Want.TheVariants as wants
+use Rattle.fn_tokens.specs.declared.control.Control.{Control}
+use Rattle.fn_tokens.specs.declared.control.TokenMove.{TokenMove}
+use Rattle.fn_tokens.specs.Controls.{lacks_with, lacks_block}
+use Rattle.fn_tokens.specs.Kinds.{has_seen}
 use Rattle.fn_rules.specs.Functions.{is_declared}
-use Rattle.fn_moves.specs.Moves.{move_for}
-use Rattle.fn_moves.specs.Faults.{placed_fault, fault_of, cause_in, region_of}
-use Rattle.fn_moves.specs.Meaning.{Maker}
+use Rattle.fn_tokens.specs.Moves.{move_for}
+use Rattle.fn_tokens.specs.Faults.{placed_fault, fault_of, cause_in, region_of}
+use Rattle.fn_tokens.specs.Meaning.{Maker}
 use Rattle.fn_text.specs.Reader.{no_pairs, State, moved, after_move, turn, first_control, first_state}
 use Rattle.fn_text.specs.Theorems.{state_behind}
 use Rattle.fn_text.specs.Continuing.{wants_atom_more, repeats_block}
@@ -57,7 +57,8 @@ module _ {V : Tightness → Type 0} {K B : Type 0} (m : Maker V K B) where
   step s at before after None goes e h = absurd (cc)
   step s at before after (Some move) goes e h =
       let same : moved m s move ≡ after = cc in
-      subst (λ x. StandsBehind x (at ∷ before)) same (token_keeps m s at (bare before) (block_place before) s.control.want move h goes)
+      subst (λ x. StandsBehind x (at ∷ before)) same
+      (token_keeps m s at (bare before) (block_place before) s.control.want move h goes)
 
   by_turn : (P : Type 0) (s : State V K B) (at : Placed) (front : List Placed) (state : State V K B)
       (next : Result (State V K B) TextFault) → turn m s at ≡ next → going_on m front next ≡ Ok state →
@@ -82,7 +83,8 @@ placed_told c before at _ line column = refl
 
 -- the reader's fault is the one that is told behind these tokens
 pub fault_told : {V : Tightness → Type 0} {K B : Type 0} (s : State V K B) (before : List Placed) (at : Placed) →
-    StandsBehind s before → move_for s.control at s.control.want at.token ≡ None → fault_of s.control at ≡ fault_behind before at
+    StandsBehind s before → move_for s.control at s.control.want at.token ≡ None
+    → fault_of s.control at ≡ fault_behind before at
 fault_told s before at h none =
     placed_told s.control before at (cause_in s.control (region_of s.control.want) at.token) h.line h.column
     ∙ ap (λ kind. placed_cause before at kind)
@@ -93,8 +95,8 @@ atom_more : (c : Control) (want : Want) (atoms : ℕ) → c.atoms ≡ atoms_for 
 atom_more c wants.Operand atoms e = ap (λ n. nat_eq n 16) e
 atom_more c _ atoms e = refl
 
-pub atom_more_told : {V : Tightness → Type 0} {K B : Type 0} (s : State V K B) (before : List Placed) → StandsBehind s before →
-    wants_atom_more s.control s.control.want ≡ is_before_atom_more (bare before)
+pub atom_more_told : {V : Tightness → Type 0} {K B : Type 0} (s : State V K B) (before : List Placed)
+    → StandsBehind s before → wants_atom_more s.control s.control.want ≡ is_before_atom_more (bare before)
 atom_more_told s before h =
     atom_more s.control s.control.want (atoms_before (bare before)) h.atoms
     ∙ sym (ap (λ x. x && nat_eq (atoms_before (bare before)) 16) h.near.operand)
@@ -105,13 +107,14 @@ with_none false = refl
 
 repeats : (c : Control) (want : Want) (before : List Token) → lacks_block c ≡ lacks_some_pair before →
     ((k : Kind) → lacks_with c k ≡ lacks_pair_with before k) →
-    repeats_block c want ≡ ((wants_block_first want && not (lacks_some_pair before)) || has_each_block before (first_for want))
+    repeats_block c want
+    ≡ ((wants_block_first want && not (lacks_some_pair before)) || has_each_block before (first_for want))
 repeats c wants.BlockFirst before some pair = ap (λ x. not x) some ∙ with_none (not (lacks_some_pair before))
 repeats c (wants.BlockSecond k) before some pair = ap (λ x. not x) (pair k)
 repeats c _ before some pair = refl
 
-pub repeats_told : {V : Tightness → Type 0} {K B : Type 0} (s : State V K B) (before : List Placed) → StandsBehind s before →
-    repeats_block s.control s.control.want ≡ repeats_some_block (bare before)
+pub repeats_told : {V : Tightness → Type 0} {K B : Type 0} (s : State V K B) (before : List Placed)
+    → StandsBehind s before → repeats_block s.control s.control.want ≡ repeats_some_block (bare before)
 repeats_told s before h =
     let tokens = bare before in
     let place = block_place before in
@@ -119,4 +122,5 @@ repeats_told s before h =
     repeats s.control s.control.want tokens some (pair_lacks_with s.control s.outer s.control.want tokens place h)
     ∙ sym
     (ap (λ x. (x && not (lacks_some_pair tokens)) || has_each_block tokens (first_of_block tokens)) h.near.block_word
-    ∙ ap (λ x. (wants_block_first s.control.want && not (lacks_some_pair tokens)) || has_each_block tokens x) h.near.first)
+    ∙ ap (λ x. (wants_block_first s.control.want && not (lacks_some_pair tokens))
+    || has_each_block tokens x) h.near.first)

@@ -13,28 +13,29 @@ use Rattle.fn_tokens.specs.declared.token.Token.{Token}
 use Rattle.fn_tokens.specs.declared.token.Token.TheVariants.{Known, Number}
 use Rattle.fn_tokens.specs.declared.token.Word.TheVariants as words
 use Rattle.fn_tokens.specs.declared.token.Placed.{Placed}
-use Rattle.fn_moves.specs.declared.fault.FaultKind.{FaultKind}
-use Rattle.fn_moves.specs.declared.fault.FaultKind.TheVariants as faults
-use Rattle.fn_moves.specs.declared.control.Want.{Want}
-use Rattle.fn_moves.specs.declared.control.Want.TheVariants as wants
-use Rattle.fn_moves.specs.declared.control.Control.{Control}
-use Rattle.fn_moves.specs.declared.control.TokenMove.{TokenMove}
-use Rattle.fn_moves.specs.declared.control.TokenMove.TheVariants as moves
-use Rattle.fn_moves.specs.Languages.{language_numbered}
-use Rattle.fn_moves.specs.Kinds.{has_seen}
-use Rattle.fn_moves.specs.Meaning.{is_offset_number, may_compare}
-use Rattle.fn_moves.specs.Controls.{allowed, has_chars, lacks, lacks_block, depth_of}
-use Rattle.fn_moves.specs.Moves.{move_for}
-use Rattle.fn_moves.specs.Meaning.{is_same_side, is_same_sort}
-use Rattle.fn_moves.specs.Faults.{region_of, number_fault, operand_fault, thing_fault, kind_fault, end_fault, case_fault, nesting_fault}
+use Rattle.fn_tokens.specs.declared.fault.FaultKind.{FaultKind}
+use Rattle.fn_tokens.specs.declared.fault.FaultKind.TheVariants as faults
+use Rattle.fn_tokens.specs.declared.control.Want.{Want}
+use Rattle.fn_tokens.specs.declared.control.Want.TheVariants as wants
+use Rattle.fn_tokens.specs.declared.control.Control.{Control}
+use Rattle.fn_tokens.specs.declared.control.TokenMove.{TokenMove}
+use Rattle.fn_tokens.specs.declared.control.TokenMove.TheVariants as moves
+use Rattle.fn_tokens.specs.Languages.{language_numbered}
+use Rattle.fn_tokens.specs.Kinds.{has_seen}
+use Rattle.fn_tokens.specs.Meaning.{is_offset_number, may_compare}
+use Rattle.fn_tokens.specs.Controls.{allowed, has_chars, lacks, lacks_block, depth_of}
+use Rattle.fn_tokens.specs.Moves.{move_for}
+use Rattle.fn_tokens.specs.Meaning.{is_same_side, is_same_sort}
+use Rattle.fn_tokens.specs.Faults.{region_of, number_fault, operand_fault, thing_fault, kind_fault, end_fault}
+use Rattle.fn_tokens.specs.Faults.{case_fault, nesting_fault}
 use Rattle.fn_text.specs.Counting.{declares}
 use Rattle.fn_text.specs.Counting.{has_block}
 use Rattle.fn_text.specs.Causes.{differs_from, is_repeated}
 use Rattle.fn_text.proofs.Languages.{none_numbered}
 use Rattle.fn_text.proofs.Causes.States.{wants_line, wants_number, wants_version, wants_in_block_line, wants_in_guard}
-use Rattle.fn_text.proofs.Causes.States.{wants_in_result, wants_operand, wants_behind_operand}
-use Rattle.fn_text.proofs.Causes.States.{wants_behind_result, first_for, compared_for}
-use Rattle.fn_text.proofs.Causes.States.{atoms_for, wants_counted, wants_head, wants_end, wants_fresh, wants_inside, Where}
+use Rattle.fn_text.proofs.Causes.States.{wants_in_result, wants_operand, wants_behind_operand, wants_behind_result}
+use Rattle.fn_text.proofs.Causes.States.{first_for, compared_for, atoms_for, wants_counted, wants_head, wants_end}
+use Rattle.fn_text.proofs.Causes.States.{wants_fresh, wants_inside, Where}
 
 refused : (test : Bool) (move : TokenMove) → allowed test move ≡ None → test ≡ false
 refused true move h = absurd (cc)
@@ -43,7 +44,8 @@ refused false move h = refl
 -- the rows that a token can fit, in their order
 abbrev pub number_row : Bool → Bool → ℕ → FaultKind
 number_row sign otfn n =
-    cond (sign && not (is_offset_number n)) faults.Offset (cond (otfn && is_none (language_numbered n)) faults.Version faults.Expected)
+    cond (sign && not (is_offset_number n)) faults.Offset
+    (cond (otfn && is_none (language_numbered n)) faults.Version faults.Expected)
 
 abbrev pub operand_row : Bool → ℕ → FaultKind
 operand_row operand atoms = cond (operand && nat_le 16 atoms) faults.Atoms faults.Expected
@@ -104,13 +106,14 @@ case_more_row false cases none many = let zero_cases = none refl in cc
 module _ (c : Control) (at : Placed) where
   pub number_told : (want : Want) (n : ℕ) → move_for c at want (Number n) ≡ None →
       number_fault (region_of want) ≡ number_row (wants_number want) (wants_version want) n
-  number_told wants.Version n h = let other = none_numbered (λ language. moves.SetLanguage language) (language_numbered n) h in cc
+  number_told wants.Version n h =
+      let other = none_numbered (λ language. moves.SetLanguage language) (language_numbered n) h in cc
   number_told (wants.Number left cmp sign) n h = let great = refused (is_offset_number n) _ h in cc
   number_told (wants.ResultNumber side sign) n h = let great = refused (is_offset_number n) _ h in cc
   number_told _ n h = refl
 
-  pub true_told : (want : Want) (atoms : ℕ) → c.atoms ≡ atoms_for want atoms → move_for c at want (Known words.True) ≡ None →
-      operand_fault (region_of want) ≡ operand_row (wants_operand want) atoms
+  pub true_told : (want : Want) (atoms : ℕ) → c.atoms ≡ atoms_for want atoms → move_for c at want (Known words.True)
+      ≡ None → operand_fault (region_of want) ≡ operand_row (wants_operand want) atoms
   true_told wants.Operand atoms e h =
       let many = refused (nat_lt c.atoms 16) _ h in
       let above : nat_le 16 atoms ≡ true = grind (arith, nat_tests) in
@@ -121,8 +124,8 @@ module _ (c : Control) (at : Placed) where
   pub thing_told : (want : Want) (sort : Sort) (side : Side) (atoms : ℕ) → c.atoms ≡ atoms_for want atoms →
       move_for c at want (Known (words.Thing sort side)) ≡ None →
       thing_fault c sort (region_of want)
-      ≡ thing_row (differs_from (compared_for want) sort side) (wants_inside want && not (may_compare (has_chars c) sort))
-      (wants_operand want) atoms
+      ≡ thing_row (differs_from (compared_for want) sort side)
+      (wants_inside want && not (may_compare (has_chars c) sort)) (wants_operand want) atoms
   thing_told (wants.Right other left cmp) sort side atoms e h =
       let fits : Bool = is_same_sort other sort && not (is_same_side left side) in
       side_row fits (may_compare (has_chars c) sort) atoms (refused fits _ h)
@@ -132,14 +135,15 @@ module _ (c : Control) (at : Placed) where
   thing_told _ sort side atoms e h = refl
 
   -- a kind, where these blocks are there and these kinds are declared
-  pub kind_told : (want : Want) (k : Kind) (before : List Token) → ((i j : Kind) → has_block before i j ≡ has_seen c.seen i j) →
-      declares before k ≡ is_declared c.head k → move_for c at want (Known (words.Kind k)) ≡ None →
-      kind_fault c k (region_of want)
+  pub kind_told : (want : Want) (k : Kind) (before : List Token)
+      → ((i j : Kind) → has_block before i j ≡ has_seen c.seen i j) → declares before k ≡ is_declared c.head k
+      → move_for c at want (Known (words.Kind k)) ≡ None → kind_fault c k (region_of want)
       ≡ kind_row (is_repeated before (first_for want) k) (wants_in_block_line want) (is_declared c.head k)
       (wants_in_result want && not (wants_behind_result want) && not (is_same_kind c.first k))
   kind_told wants.BlockFirst k before seen told h = undeclared_row (is_declared c.head k)
   kind_told (wants.BlockSecond i) k before seen told h =
-      double_row (is_declared c.head k) (has_seen c.seen i k) (refused (is_declared c.head k && not (has_seen c.seen i k)) _ h)
+      double_row (is_declared c.head k) (has_seen c.seen i k)
+      (refused (is_declared c.head k && not (has_seen c.seen i k)) _ h)
       ∙ sym (ap (λ x. kind_row x true (is_declared c.head k) false) there)
     where
       there : (declares before k && has_block before i k) ≡ (is_declared c.head k && has_seen c.seen i k)
@@ -147,20 +151,22 @@ module _ (c : Control) (at : Placed) where
   kind_told wants.BlockEnd k before seen told h = undeclared_row (is_declared c.head k)
   kind_told wants.Result k before seen told h = kept_row (is_declared c.head k) (is_same_kind c.first k)
   kind_told wants.ResultPosition k before seen told h = kept_row (is_declared c.head k) (is_same_kind c.first k)
-  kind_told (wants.ResultNumber side sign) k before seen told h = kept_row (is_declared c.head k) (is_same_kind c.first k)
+  kind_told (wants.ResultNumber side sign) k before seen told h =
+      kept_row (is_declared c.head k) (is_same_kind c.first k)
   kind_told _ k before seen told h = refl
 
-  pub end_told : (want : Want) → Where (wants_head want) (lacks_block c ≡ false) → Where (wants_end want) (lacks_block c ≡ false) →
-      move_for c at want (Known words.End) ≡ None →
+  pub end_told : (want : Want) → Where (wants_head want) (lacks_block c ≡ false)
+      → Where (wants_end want) (lacks_block c ≡ false) → move_for c at want (Known words.End) ≡ None →
       end_fault (region_of want) ≡ end_row (wants_line want) (lacks_block c)
-  end_told wants.Line head full h = let some : lacks_block c ≡ true = not-false _ (refused (not (lacks_block c)) _ h) in cc
+  end_told wants.Line head full h =
+      let some : lacks_block c ≡ true = not-false _ (refused (not (lacks_block c)) _ h) in cc
   end_told wants.Text head full h = cc
   end_told wants.Kinds head full h = cc
   end_told wants.FileEnd head full h = cc
   end_told _ head full h = refl
 
-  pub case_told : (want : Want) (cases : ℕ) → Where (wants_counted want) (c.cases ≡ cases) → Where (wants_fresh want) (0 ≡ cases) →
-      (c.begun ≡ false → 0 ≡ cases) → move_for c at want (Known words.Case) ≡ None →
+  pub case_told : (want : Want) (cases : ℕ) → Where (wants_counted want) (c.cases ≡ cases) → Where (wants_fresh want)
+      (0 ≡ cases) → (c.begun ≡ false → 0 ≡ cases) → move_for c at want (Known words.Case) ≡ None →
       case_fault c (region_of want) ≡ case_row (wants_line want) cases
   case_told wants.Line cases counted fresh none h =
       case_more_row c.begun cases none

@@ -8,18 +8,18 @@ use Rattle.fn_rules.specs.declared.guard.Tightness.{Tightness}
 use Rattle.fn_tokens.specs.declared.token.Token.{Token}
 use Rattle.fn_tokens.specs.declared.token.Token.TheVariants.{Known, Open}
 use Rattle.fn_tokens.specs.declared.token.Word.TheVariants as words
-use Rattle.fn_moves.specs.declared.control.AfterLine.TheVariants as nexts
-use Rattle.fn_moves.specs.declared.control.Want.{Want}
-use Rattle.fn_moves.specs.declared.control.Want.TheVariants as wants
-use Rattle.fn_moves.specs.declared.control.Control.{Control}
-use Rattle.fn_moves.specs.Controls.{lacks_block}
-use Rattle.fn_moves.specs.Kinds.{has_seen}
+use Rattle.fn_tokens.specs.declared.control.AfterLine.TheVariants as nexts
+use Rattle.fn_tokens.specs.declared.control.Want.{Want}
+use Rattle.fn_tokens.specs.declared.control.Want.TheVariants as wants
+use Rattle.fn_tokens.specs.declared.control.Control.{Control}
+use Rattle.fn_tokens.specs.Controls.{lacks_block}
+use Rattle.fn_tokens.specs.Kinds.{has_seen}
 use Rattle.fn_text.specs.Reader.{Nesting}
-use Rattle.fn_text.specs.Counting.{language_before, is_behind_line_end, is_behind_sign, is_behind_otfn, is_behind_block, is_in_kinds}
-use Rattle.fn_text.specs.Counting.{is_in_block_line}
-use Rattle.fn_text.specs.Counting.{is_in_guard, is_in_result, declares, first_of_block, is_behind_pair, blocks_before, has_block}
-use Rattle.fn_text.specs.Counting.{this_block, cases_before, atoms_before, is_before_operand, thing_before, thing_compared}
-use Rattle.fn_text.specs.Counting.{is_behind_operand, opened_before, is_behind_result}
+use Rattle.fn_text.specs.Counting.{language_before, is_behind_line_end, is_behind_sign, is_behind_otfn, is_behind_block}
+use Rattle.fn_text.specs.Counting.{is_in_kinds, is_in_block_line, is_in_guard, is_in_result, declares, first_of_block}
+use Rattle.fn_text.specs.Counting.{is_behind_pair, blocks_before, has_block, this_block, cases_before, atoms_before}
+use Rattle.fn_text.specs.Counting.{is_before_operand, thing_before, thing_compared, is_behind_operand, opened_before}
+use Rattle.fn_text.specs.Counting.{is_behind_result}
 
 -- a fact that is told where a test is true
 abbrev pub Where : Bool → Type 0 → Type 0

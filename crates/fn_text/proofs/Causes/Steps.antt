@@ -17,37 +17,38 @@ use Rattle.fn_rules.specs.declared.guard.Side.{Side}
 use Rattle.fn_rules.specs.declared.guard.Cmp.{Cmp}
 use Rattle.fn_rules.specs.declared.guard.Tightness.{Tightness}
 use Rattle.fn_tokens.specs.declared.token.Sign.{Sign}
-use Rattle.fn_moves.specs.declared.control.Written.{Written}
+use Rattle.fn_tokens.specs.declared.control.Written.{Written}
 use Rattle.fn_tokens.specs.declared.token.Token.{Token}
 use Rattle.fn_tokens.specs.declared.token.Token.TheVariants.{Known, Number, Open, Close}
 use Rattle.fn_tokens.specs.declared.token.Word.TheVariants as words
 use Rattle.fn_tokens.specs.declared.token.Placed.{Placed}
-use Rattle.fn_moves.specs.declared.control.AfterLine.{AfterLine}
-use Rattle.fn_moves.specs.declared.control.AfterLine.TheVariants as nexts
-use Rattle.fn_moves.specs.declared.control.Want.{Want}
-use Rattle.fn_moves.specs.declared.control.Want.TheVariants as wants
-use Rattle.fn_moves.specs.declared.control.TokenMove.{TokenMove}
-use Rattle.fn_moves.specs.declared.control.TokenMove.TheVariants as moves
-use Rattle.fn_moves.specs.declared.language.Language.{Language}
-use Rattle.fn_moves.specs.declared.language.Language.TheVariants.{One, Two}
-use Rattle.fn_moves.specs.Languages.{language_numbered, number_of}
-use Rattle.fn_moves.specs.Meaning.{Maker}
+use Rattle.fn_tokens.specs.declared.control.AfterLine.{AfterLine}
+use Rattle.fn_tokens.specs.declared.control.AfterLine.TheVariants as nexts
+use Rattle.fn_tokens.specs.declared.control.Want.{Want}
+use Rattle.fn_tokens.specs.declared.control.Want.TheVariants as wants
+use Rattle.fn_tokens.specs.declared.control.TokenMove.{TokenMove}
+use Rattle.fn_tokens.specs.declared.control.TokenMove.TheVariants as moves
+use Rattle.fn_tokens.specs.declared.language.Language.{Language}
+use Rattle.fn_tokens.specs.declared.language.Language.TheVariants.{One, Two}
+use Rattle.fn_tokens.specs.Languages.{language_numbered, number_of}
+use Rattle.fn_tokens.specs.Meaning.{Maker}
 use Rattle.fn_text.specs.Reader.{State, Nesting, disjunction, left_for, closed_parentheses, moved}
-use Rattle.fn_moves.specs.Controls.{lacks_block}
-use Rattle.fn_moves.specs.Kinds.{with_kind, with_pair, has_seen}
-use Rattle.fn_moves.specs.Moves.{move_for}
-use Rattle.fn_text.specs.Counting.{language_before, is_behind_otfn, is_behind_block, is_in_kinds, kinds_before, declares}
-use Rattle.fn_text.specs.Counting.{first_of_block, is_behind_pair, blocks_before}
-use Rattle.fn_text.specs.Counting.{has_block, this_block, cases_before, atoms_before, thing_compared, is_behind_operand, without_nots}
+use Rattle.fn_tokens.specs.Controls.{lacks_block}
+use Rattle.fn_tokens.specs.Kinds.{with_kind, with_pair, has_seen}
+use Rattle.fn_tokens.specs.Moves.{move_for}
+use Rattle.fn_text.specs.Counting.{language_before, is_behind_otfn, is_behind_block, is_in_kinds, kinds_before}
+use Rattle.fn_text.specs.Counting.{declares, first_of_block, is_behind_pair, blocks_before, has_block, this_block}
+use Rattle.fn_text.specs.Counting.{cases_before, atoms_before, thing_compared, is_behind_operand, without_nots}
 use Rattle.fn_text.specs.Counting.{opened_before}
 use Rattle.fn_text.specs.Causes.{place_behind}
 use Rattle.fn_text.proofs.SeenPairs.{has_seen-with_pair}
 use Rattle.fn_text.proofs.Languages.{declared_more}
 use Rattle.fn_text.proofs.Causes.States.{first_for, wants_version, Stands, nots_upon, opened_by, AreAround}
-use Rattle.fn_text.proofs.ReadIsWritten.Moves.{by_otfn, by_version, by_text, by_mode, by_kinds, by_line_end, by_line, by_assumed}
-use Rattle.fn_text.proofs.ReadIsWritten.Moves.{by_differ, by_next_kind, by_block_first, by_block_second, by_block_end, by_operand}
-use Rattle.fn_text.proofs.ReadIsWritten.Moves.{by_comparison, by_right, by_operator, by_offset, by_number, by_result, by_result_position}
-use Rattle.fn_text.proofs.ReadIsWritten.Moves.{by_result_offset, by_result_number, by_result_end, by_file_end}
+use Rattle.fn_text.proofs.ReadIsWritten.Moves.{by_otfn, by_version, by_text, by_mode, by_kinds, by_line_end, by_line}
+use Rattle.fn_text.proofs.ReadIsWritten.Moves.{by_assumed, by_differ, by_next_kind, by_block_first, by_block_second}
+use Rattle.fn_text.proofs.ReadIsWritten.Moves.{by_block_end, by_operand, by_comparison, by_right, by_operator}
+use Rattle.fn_text.proofs.ReadIsWritten.Moves.{by_offset, by_number, by_result, by_result_position, by_result_offset}
+use Rattle.fn_text.proofs.ReadIsWritten.Moves.{by_result_number, by_result_end, by_file_end}
 
 -- what is counted behind one more kind
 first_behind : (k : Kind) (before : List Token) (test : Bool) → is_behind_block before ≡ test →
@@ -59,7 +60,8 @@ pair_behind : (l : Kind) (before : List Token) (first : Option Kind) → first_o
 pair_behind l before first e = ap (λ (x : Option Kind). elim x as (λ y. Bool) [ Some k ↦ true | None ↦ false ]) e
 
 blocks_behind : (l : Kind) (before : List Token) (first : Option Kind) → first_of_block before ≡ first →
-    blocks_before (Known (words.Kind l) ∷ before) ≡ (elim first [ Some k ↦ (k, l) ∷ blocks_before before | None ↦ blocks_before before ])
+    blocks_before (Known (words.Kind l) ∷ before)
+    ≡ (elim first [ Some k ↦ (k, l) ∷ blocks_before before | None ↦ blocks_before before ])
 blocks_behind l before first e =
     ap
     (λ (x : Option Kind). elim x as (λ y. List (Kind × Kind)) [
@@ -72,7 +74,8 @@ kinds_behind : (k : Kind) (before : List Token) (test : Bool) → is_in_kinds be
     kinds_before (Known (words.Kind k) ∷ before) ≡ cond test (k ∷ kinds_before before) (kinds_before before)
 kinds_behind k before test e = ap (λ x. cond x (k ∷ kinds_before before) (kinds_before before)) e
 
-operand_behind : (sort : Sort) (side : Side) (before : List Token) (first : Option (Sort × Side)) → thing_compared before ≡ first →
+operand_behind : (sort : Sort) (side : Side) (before : List Token) (first : Option (Sort × Side))
+    → thing_compared before ≡ first →
     is_behind_operand (Known (words.Thing sort side) ∷ before) ≡ (elim first [ Some thing ↦ true | None ↦ false ])
 operand_behind sort side before first e =
     ap (λ (x : Option (Sort × Side)). elim x as (λ y. Bool) [ Some thing ↦ true | None ↦ false ]) e
@@ -93,17 +96,20 @@ number_named One before e = language_behind 1 before true e
 number_named Two before e = language_behind 2 before true e
 
 -- what the head declares, when something else of it is told
-declared_in_mode : (head : Head) (mode : Mode) (k : Kind) → is_declared (record head { mode = mode }) k ≡ is_declared head k
+declared_in_mode : (head : Head) (mode : Mode) (k : Kind)
+    → is_declared (record head { mode = mode }) k ≡ is_declared head k
 declared_in_mode head mode kinds.Ins = refl
 declared_in_mode head mode kinds.Del = refl
 declared_in_mode head mode kinds.Upd = refl
 
-declared_over_sites : (head : Head) (k : Kind) → is_declared (record head { sites_differ = true }) k ≡ is_declared head k
+declared_over_sites : (head : Head) (k : Kind)
+    → is_declared (record head { sites_differ = true }) k ≡ is_declared head k
 declared_over_sites head kinds.Ins = refl
 declared_over_sites head kinds.Del = refl
 declared_over_sites head kinds.Upd = refl
 
-declared_over_chars : (head : Head) (k : Kind) → is_declared (record head { chars_differ = true }) k ≡ is_declared head k
+declared_over_chars : (head : Head) (k : Kind)
+    → is_declared (record head { chars_differ = true }) k ≡ is_declared head k
 declared_over_chars head kinds.Ins = refl
 declared_over_chars head kinds.Del = refl
 declared_over_chars head kinds.Upd = refl
@@ -117,7 +123,8 @@ closed_nots zero [] = refl
 closed_nots zero (level ∷ levels) = refl
 closed_nots (suc n) outer = closed_nots n outer
 
-none_opened : {V : Tightness → Type 0} (n : ℕ) (outer : List (Nesting V)) → AreAround n outer → n ≡ 0 → [] ≡ opened_by outer
+none_opened : {V : Tightness → Type 0} (n : ℕ) (outer : List (Nesting V)) → AreAround n outer
+    → n ≡ 0 → [] ≡ opened_by outer
 none_opened n [] h e = refl
 none_opened n (level ∷ levels) h e = let one = h.0 in absurd (omega (arith, one, e))
 
@@ -129,11 +136,13 @@ module _ {V : Tightness → Type 0} {K B : Type 0} (m : Maker V K B) (s : State 
 
   abbrev Keeps : Token → TokenMove → Type 0
   Keeps t move =
-      Stands (moved m s move).control (moved m s move).outer (moved m s move).control.want (t ∷ before) (place_behind t at place)
+      Stands (moved m s move).control (moved m s move).outer (moved m s move).control.want (t ∷ before)
+      (place_behind t at place)
 
   -- each token that goes on there keeps it
   abbrev KeepsAt : Want → Type 0
-  KeepsAt want = (t : Token) (move : TokenMove) → StandsAt want → move_for s.control at want t ≡ Some move → Keeps t move
+  KeepsAt want = (t : Token) (move : TokenMove) → StandsAt want
+      → move_for s.control at want t ≡ Some move → Keeps t move
 
   otfn_keeps : KeepsAt wants.Otfn
   otfn_keeps t move h e = by_otfn Keeps t move e assumption
@@ -209,7 +218,8 @@ module _ {V : Tightness → Type 0} {K B : Type 0} (m : Maker V K B) (s : State 
 
   number_keeps : (left : Side) (cmp : Cmp) (sign : Sign) → KeepsAt (wants.Number left cmp sign)
   number_keeps left cmp sign t move h e =
-      by_number Keeps left cmp sign t move e (λ n test. let named = language_stays (wants.Number left cmp sign) h refl n in assumption)
+      by_number Keeps left cmp sign t move e
+      (λ n test. let named = language_stays (wants.Number left cmp sign) h refl n in assumption)
 
   result_position_keeps : KeepsAt wants.ResultPosition
   result_position_keeps t move h e = by_result_position Keeps t move e (λ side. assumption)
@@ -219,7 +229,8 @@ module _ {V : Tightness → Type 0} {K B : Type 0} (m : Maker V K B) (s : State 
 
   result_number_keeps : (side : Side) (sign : Sign) → KeepsAt (wants.ResultNumber side sign)
   result_number_keeps side sign t move h e =
-      by_result_number Keeps side sign t move e (λ n test. let named = language_stays (wants.ResultNumber side sign) h refl n in assumption)
+      by_result_number Keeps side sign t move e
+      (λ n test. let named = language_stays (wants.ResultNumber side sign) h refl n in assumption)
 
   result_end_keeps : (result : Written) → KeepsAt (wants.ResultEnd result)
   result_end_keeps result t move h e = by_result_end Keeps result t move e assumption
@@ -255,7 +266,8 @@ module _ {V : Tightness → Type 0} {K B : Type 0} (m : Maker V K B) (s : State 
   next_kind_keeps t move h e =
       by_next_kind Keeps s.control t move e
       (λ k word test.
-      let declared : (i : Kind) → declares (Known (words.Kind k) ∷ before) i ≡ is_declared (with_kind s.control.head k) i =
+      let declared : (i : Kind) → declares (Known (words.Kind k) ∷ before) i
+      ≡ is_declared (with_kind s.control.head k) i =
       λ i. ap (λ ks. list_any (is_same_kind i) ks) (kinds_behind k before true h.near.kinds)
       ∙ (ap (λ b. is_same_kind i k || b) (h.declared i) ∙ sym (declared_more s.control.head k i)) in
       let first = first_behind k before false h.near.block_word in
@@ -281,9 +293,11 @@ module _ {V : Tightness → Type 0} {K B : Type 0} (m : Maker V K B) (s : State 
       let first = first_behind l before false h.near.block_word in
       let pair = pair_behind l before (Some k) h.near.first in
       let blocks = blocks_behind l before (Some k) h.near.first in
-      let seen : (i j : Kind) → has_block (Known (words.Kind l) ∷ before) i j ≡ has_seen (with_pair s.control.seen k l) i j =
+      let seen : (i j : Kind) → has_block (Known (words.Kind l) ∷ before) i j
+      ≡ has_seen (with_pair s.control.seen k l) i j =
       λ i j. ap (λ pairs. has_pair i j pairs) blocks
-      ∙ (ap (λ b. (is_same_kind k i && is_same_kind l j) || b) (h.seen i j) ∙ sym (has_seen-with_pair s.control.seen k l i j)) in
+      ∙ (ap (λ b. (is_same_kind k i && is_same_kind l j) || b) (h.seen i j)
+      ∙ sym (has_seen-with_pair s.control.seen k l i j)) in
       let some : true ≡ false → 0 ≡ cases_before before = λ none. absurd (cc) in
       let block : true ≡ true → this_block (blocks_before (Known (words.Kind l) ∷ before)) ≡ Some (k, l) =
       λ begun. ap (λ pairs. this_block pairs) blocks in
@@ -300,19 +314,21 @@ module _ {V : Tightness → Type 0} {K B : Type 0} (m : Maker V K B) (s : State 
       assumption)
 
   -- at `)` after an operand
-  close_keeps : (outer : List (Nesting V)) → s.outer ≡ outer → StandsAt wants.Operator → nat_lt 0 s.control.outside ≡ true →
-      Keeps Close moves.Close
+  close_keeps : (outer : List (Nesting V)) → s.outer ≡ outer → StandsAt wants.Operator
+      → nat_lt 0 s.control.outside ≡ true → Keeps Close moves.Close
   close_keeps [] same h test =
       let none : s.control.outside ≡ 0 = subst (λ x. AreAround s.control.outside x) same h.around in
       absurd (grind (arith, nat_tests))
   close_keeps (level ∷ levels) same h test =
-      let around : AreAround s.control.outside (level ∷ levels) = subst (λ x. AreAround s.control.outside x) same h.around in
+      let around : AreAround s.control.outside (level ∷ levels) =
+      subst (λ x. AreAround s.control.outside x) same h.around in
       let opened : drop 1 (without_nots (opened_before before)) ≡ nots_upon level.nots (opened_by levels) =
       ap (λ x. drop 1 (without_nots x)) h.opened
       ∙ (ap (λ x. drop 1 x) (closed_nots s.control.nots s.outer) ∙ ap (λ x. drop 1 (opened_by x)) same) in
       let left : State V K B = left_for (record s { last = m.round (disjunction m s) }) level levels in
       let there : Stands left.control levels wants.Operator (Close ∷ before) place = assumption in
-      subst (λ x. Stands x.control x.outer x.control.want (Close ∷ before) place) (sym (ap (λ x. closed_parentheses m s x) same)) there
+      subst (λ x. Stands x.control x.outer x.control.want (Close ∷ before) place)
+      (sym (ap (λ x. closed_parentheses m s x) same)) there
 
   -- after an operand
   operator_keeps : KeepsAt wants.Operator
@@ -329,7 +345,8 @@ module _ {V : Tightness → Type 0} {K B : Type 0} (m : Maker V K B) (s : State 
       assumption)
 
   offset_keeps : (left : Side) (cmp : Cmp) → KeepsAt (wants.Offset left cmp)
-  offset_keeps left cmp t move h e = by_offset Keeps s.control left cmp t move e (λ sign. assumption) (operator_keeps t move assumption)
+  offset_keeps left cmp t move h e =
+      by_offset Keeps s.control left cmp t move e (λ sign. assumption) (operator_keeps t move assumption)
 
   -- where an operand is wanted
   operand_keeps : KeepsAt wants.Operand
@@ -337,7 +354,8 @@ module _ {V : Tightness → Type 0} {K B : Type 0} (m : Maker V K B) (s : State 
       let more : s.control.atoms + 1 ≡ atoms_before before + 1 = ap (λ n. n + 1) h.atoms in
       by_operand Keeps s.control t move e
       (λ test.
-      let inner : Open ∷ opened_before before ≡ Open ∷ nots_upon s.control.nots (opened_by s.outer) = ap (λ x. Open ∷ x) h.opened in
+      let inner : Open ∷ opened_before before ≡ Open ∷ nots_upon s.control.nots (opened_by s.outer) =
+      ap (λ x. Open ∷ x) h.opened in
       assumption)
       (λ test.
       let inner : Known words.Not ∷ opened_before before ≡ nots_upon (s.control.nots + 1) (opened_by s.outer) =
@@ -351,9 +369,12 @@ module _ {V : Tightness → Type 0} {K B : Type 0} (m : Maker V K B) (s : State 
     where
       whole : (sort : Sort) → StandsAt (wants.Right sort left cmp) →
           Keeps (Known (words.Thing sort (other_side left))) (moves.Compare sort left cmp)
-      whole Pos h = let first = operand_behind Pos (other_side left) before (Some (Pos, left)) h.near.compared in assumption
-      whole Site h = let first = operand_behind Site (other_side left) before (Some (Site, left)) h.near.compared in assumption
-      whole Char h = let first = operand_behind Char (other_side left) before (Some (Char, left)) h.near.compared in assumption
+      whole Pos h =
+          let first = operand_behind Pos (other_side left) before (Some (Pos, left)) h.near.compared in assumption
+      whole Site h =
+          let first = operand_behind Site (other_side left) before (Some (Site, left)) h.near.compared in assumption
+      whole Char h =
+          let first = operand_behind Char (other_side left) before (Some (Char, left)) h.near.compared in assumption
 
   -- each token that goes on
   pub token_keeps : (want : Want) (move : TokenMove) → StandsAt want →

@@ -14,21 +14,21 @@ use Rattle.fn_tokens.specs.declared.token.Token.TheVariants.{Known, Number, Open
 use Rattle.fn_tokens.specs.declared.token.Word.{Word}
 use Rattle.fn_tokens.specs.declared.token.Word.TheVariants as words
 use Rattle.fn_tokens.specs.declared.token.Placed.{Placed}
-use Rattle.fn_moves.specs.declared.fault.FaultKind.{FaultKind}
-use Rattle.fn_moves.specs.declared.fault.FaultKind.TheVariants as faults
-use Rattle.fn_moves.specs.declared.control.Want.{Want}
-use Rattle.fn_moves.specs.declared.control.Want.TheVariants as wants
-use Rattle.fn_moves.specs.declared.control.Control.{Control}
-use Rattle.fn_moves.specs.Languages.{has_word}
-use Rattle.fn_moves.specs.Kinds.{has_seen}
-use Rattle.fn_moves.specs.Meaning.{may_compare}
-use Rattle.fn_moves.specs.Controls.{has_chars, lacks, lacks_with, lacks_block, depth_of}
-use Rattle.fn_moves.specs.Moves.{move_for}
-use Rattle.fn_moves.specs.Faults.{region_of, number_fault, operand_fault, thing_fault, kind_fault, end_fault, case_fault, nesting_fault}
-use Rattle.fn_moves.specs.Faults.{word_fault, cause_in}
+use Rattle.fn_tokens.specs.declared.fault.FaultKind.{FaultKind}
+use Rattle.fn_tokens.specs.declared.fault.FaultKind.TheVariants as faults
+use Rattle.fn_tokens.specs.declared.control.Want.{Want}
+use Rattle.fn_tokens.specs.declared.control.Want.TheVariants as wants
+use Rattle.fn_tokens.specs.declared.control.Control.{Control}
+use Rattle.fn_tokens.specs.Languages.{has_word}
+use Rattle.fn_tokens.specs.Kinds.{has_seen}
+use Rattle.fn_tokens.specs.Meaning.{may_compare}
+use Rattle.fn_tokens.specs.Controls.{has_chars, lacks, lacks_with, lacks_block, depth_of}
+use Rattle.fn_tokens.specs.Moves.{move_for}
+use Rattle.fn_tokens.specs.Faults.{region_of, number_fault, operand_fault, thing_fault, kind_fault, end_fault}
+use Rattle.fn_tokens.specs.Faults.{case_fault, nesting_fault, word_fault, cause_in}
 use Rattle.fn_text.specs.Reader.{Nesting}
-use Rattle.fn_text.specs.Counting.{is_behind_otfn, is_in_block_line, is_in_guard, declares, blocks_before}
-use Rattle.fn_text.specs.Counting.{has_block, lacks_pair, lacks_pair_with, lacks_some_pair, this_block, may_name_chars, transforms}
+use Rattle.fn_text.specs.Counting.{is_behind_otfn, is_in_block_line, is_in_guard, declares, blocks_before, has_block}
+use Rattle.fn_text.specs.Counting.{lacks_pair, lacks_pair_with, lacks_some_pair, this_block, may_name_chars, transforms}
 use Rattle.fn_text.specs.Counting.{cases_before, atoms_before, is_behind_operand, without_nots, opened_before}
 use Rattle.fn_text.specs.Counting.{nesting_before, is_behind_result}
 use Rattle.fn_text.specs.Causes.{cause_of, is_second_block, is_other_kind}
@@ -63,7 +63,8 @@ inside_result (wants.ResultEnd result) e = refl
 inside_result _ e = absurd (cc)
 
 -- where no kind is declared, no block is missing
-not_lacking : (c : Control) (test : Bool) → Where test ((k : Kind) → is_declared c.head k ≡ false) → Where test (lacks_block c ≡ false)
+not_lacking : (c : Control) (test : Bool) → Where test ((k : Kind) → is_declared c.head k ≡ false)
+    → Where test (lacks_block c ≡ false)
 not_lacking c true none =
     no_kind_from (lacks_with c) (λ k. no_kind_from (lacks c k)
     (λ l. ap (λ x. (x && is_declared c.head l) && not (has_seen c.seen k l)) (none k)))
@@ -79,12 +80,13 @@ same_any : (p q : Kind → Bool) (ks : List Kind) → ((k : Kind) → p k ≡ q 
 same_any p q [] same = refl
 same_any p q (k ∷ ks) same = ap (λ x. x || list_any p ks) (same k) ∙ ap (λ x. q k || x) (same_any p q ks same)
 
-module _ {V : Tightness → Type 0} (c : Control) (outer : List (Nesting V)) (want : Want) (before : List Token) (place : ℕ × ℕ)
+module _ {V : Tightness → Type 0} (c : Control) (outer : List (Nesting V)) (want : Want)
+    (before : List Token) (place : ℕ × ℕ)
     (h : Stands c outer want before place) where
   pair_lacks : (k l : Kind) → lacks c k l ≡ lacks_pair before k l
   pair_lacks k l =
-      lacks_told (is_declared c.head k) (is_declared c.head l) (declares before k) (declares before l) (has_seen c.seen k l)
-      (has_block before k l) (h.declared k) (h.declared l) (h.seen k l)
+      lacks_told (is_declared c.head k) (is_declared c.head l) (declares before k) (declares before l)
+      (has_seen c.seen k l) (has_block before k l) (h.declared k) (h.declared l) (h.seen k l)
 
   pub pair_lacks_with : (k : Kind) → lacks_with c k ≡ lacks_pair_with before k
   pair_lacks_with k = same_any (lacks c k) (lacks_pair before k) KINDS (pair_lacks k)
@@ -115,7 +117,8 @@ module _ {V : Tightness → Type 0} (c : Control) (outer : List (Nesting V)) (wa
       ∙ ap (λ x. not (wants_behind_result want) && not (transforms x k)) (h.block begun))
 
   -- the `(` and `not` around the next token are as many as the reader counts
-  pub depth_by : (whole : Bool) → is_behind_operand before ≡ whole → nesting_before before ≡ cond whole c.outside (depth_of c)
+  pub depth_by : (whole : Bool) → is_behind_operand before ≡ whole
+      → nesting_before before ≡ cond whole c.outside (depth_of c)
   depth_by true e =
       ap (λ x. length (cond x (without_nots (opened_before before)) (opened_before before))) e
       ∙ (ap (λ x. length (without_nots x)) h.opened
@@ -124,7 +127,8 @@ module _ {V : Tightness → Type 0} (c : Control) (outer : List (Nesting V)) (wa
       let outside = opened_length c.outside outer h.around in
       let nots = nots_length c.nots (opened_by outer) in
       let all : length (nots_upon c.nots (opened_by outer)) ≡ c.outside + c.nots = omega (arith, outside, nots) in
-      ap (λ x. length (cond x (without_nots (opened_before before)) (opened_before before))) e ∙ (ap (λ x. length x) h.opened ∙ all)
+      ap (λ x. length (cond x (without_nots (opened_before before)) (opened_before before))) e
+      ∙ (ap (λ x. length x) h.opened ∙ all)
 
   depth_told : (guard : Bool) → Where guard (is_behind_operand before ≡ wants_behind_operand want) →
       Where guard (nesting_before before ≡ cond (wants_behind_operand want) c.outside (depth_of c))
@@ -137,14 +141,18 @@ module _ {V : Tightness → Type 0} (c : Control) (outer : List (Nesting V)) (wa
       ∙ sym (ap (λ x. nesting_row x (nesting_before before)) h.near.guard)
 
   module _ (at : Placed) where
-    number_cause : (n : ℕ) → move_for c at want (Number n) ≡ None → number_fault (region_of want) ≡ cause_of before (Number n)
+    number_cause : (n : ℕ) → move_for c at want (Number n) ≡ None
+        → number_fault (region_of want) ≡ cause_of before (Number n)
     number_cause n none =
         number_told c at want n none
-        ∙ sym (ap (λ x. number_row x (is_behind_otfn before) n) h.near.sign ∙ ap (λ x. number_row (wants_number want) x n) h.near.otfn)
+        ∙ sym (ap (λ x. number_row x (is_behind_otfn before) n) h.near.sign
+        ∙ ap (λ x. number_row (wants_number want) x n) h.near.otfn)
 
-    true_cause : move_for c at want (Known words.True) ≡ None → operand_fault (region_of want) ≡ cause_of before (Known words.True)
+    true_cause : move_for c at want (Known words.True) ≡ None
+        → operand_fault (region_of want) ≡ cause_of before (Known words.True)
     true_cause none =
-        true_told c at want (atoms_before before) h.atoms none ∙ sym (ap (λ x. operand_row x (atoms_before before)) h.near.operand)
+        true_told c at want (atoms_before before) h.atoms none
+        ∙ sym (ap (λ x. operand_row x (atoms_before before)) h.near.operand)
 
     thing_cause : (sort : Sort) (side : Side) → move_for c at want (Known (words.Thing sort side)) ≡ None →
         thing_fault c sort (region_of want) ≡ cause_of before (Known (words.Thing sort side))
@@ -166,19 +174,22 @@ module _ {V : Tightness → Type 0} (c : Control) (outer : List (Nesting V)) (wa
     kind_word_cause : (k : Kind) → move_for c at want (Known (words.Kind k)) ≡ None →
         word_fault c (region_of want) (words.Kind k) ≡ cause_of before (Known (words.Kind k))
     kind_word_cause k none =
-        let rows : FaultKind = kind_row (is_second_block before (Known (words.Kind k))) (is_in_block_line before) (declares before k)
-        (is_other_kind before (Known (words.Kind k))) in
+        let rows : FaultKind = kind_row (is_second_block before (Known (words.Kind k))) (is_in_block_line before)
+        (declares before k) (is_other_kind before (Known (words.Kind k))) in
         ap (λ x. cond (has_word c.language k) x faults.Word) (kind_cause k none)
-        ∙ (word_first (has_word c.language k) rows ∙ sym (ap (λ x. cond (not (has_word x k)) faults.Word rows) h.language))
+        ∙ (word_first (has_word c.language k) rows
+        ∙ sym (ap (λ x. cond (not (has_word x k)) faults.Word rows) h.language))
 
-    end_cause : move_for c at want (Known words.End) ≡ None → end_fault (region_of want) ≡ cause_of before (Known words.End)
+    end_cause : move_for c at want (Known words.End) ≡ None
+        → end_fault (region_of want) ≡ cause_of before (Known words.End)
     end_cause none =
         let told = end_told c at want (not_lacking c (wants_head want) h.none) h.full none in
         told
         ∙ (ap (λ x. end_row (wants_line want) x) some_pair_lacks
         ∙ sym (ap (λ x. end_row x (lacks_some_pair before)) h.near.line_end))
 
-    case_cause : move_for c at want (Known words.Case) ≡ None → case_fault c (region_of want) ≡ cause_of before (Known words.Case)
+    case_cause : move_for c at want (Known words.Case) ≡ None
+        → case_fault c (region_of want) ≡ cause_of before (Known words.Case)
     case_cause none =
         case_told c at want (cases_before before) h.cases h.fresh h.no_cases none
         ∙ sym (ap (λ x. case_row x (cases_before before)) h.near.line_end)
@@ -194,7 +205,8 @@ module _ {V : Tightness → Type 0} (c : Control) (outer : List (Nesting V)) (wa
     word_cause _ none = refl
 
     -- the reader's table is the one on tokens
-    pub token_cause : (token : Token) → move_for c at want token ≡ None → cause_in c (region_of want) token ≡ cause_of before token
+    pub token_cause : (token : Token) → move_for c at want token ≡ None
+        → cause_in c (region_of want) token ≡ cause_of before token
     token_cause (Known word) none = word_cause word none
     token_cause (Number n) none = number_cause n none
     token_cause Open none = nesting_cause

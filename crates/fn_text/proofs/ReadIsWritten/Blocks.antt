@@ -1,9 +1,9 @@
 -- A token that goes on between lines, in the line of a block or behind a result: what is known of the
 -- state behind it.
 use Rattle.fn_tokens.specs.declared.token.Token.TheVariants as tokens
-use Rattle.std.proofs.Common.{◌≡◌, ℕ, ◌+◌, ◌<◌, ◌≤◌, Bool, true, false, not, ◌&&◌, ◌||◌, nat_eq, List, [], ◌∷◌, ◌++◌, length, map}
-use Rattle.std.proofs.Common.{count_by, cond, Some, refl, sym, ap, ◌∙◌, subst, inl, inr, append_assoc, append-nil}
-use Rattle.std.proofs.Common.{length-append, arith}
+use Rattle.std.proofs.Common.{◌≡◌, ℕ, ◌+◌, ◌<◌, ◌≤◌, Bool, true, false, not, ◌&&◌, ◌||◌, nat_eq, List, [], ◌∷◌, ◌++◌}
+use Rattle.std.proofs.Common.{length, map, count_by, cond, Some, refl, sym, ap, ◌∙◌, subst, inl, inr, append_assoc}
+use Rattle.std.proofs.Common.{append-nil, length-append, arith}
 use Rattle.std.specs.List.{flat_map, list_all}
 use Rattle.std.proofs.lemmas.List.{map-append}
 use Rattle.std.proofs.lemmas.List.Sums.{sum_by_push}
@@ -24,34 +24,36 @@ use Rattle.fn_tokens.specs.declared.token.Token.TheVariants.{Known, Number, Colo
 use Rattle.fn_tokens.specs.declared.token.Word.TheVariants as words
 use Rattle.fn_tokens.specs.declared.token.Placed.{Placed}
 use Rattle.fn_tokens.specs.declared.token.Sign.{Sign}
-use Rattle.fn_moves.specs.declared.control.Written.{Written}
-use Rattle.fn_moves.specs.declared.control.Written.TheVariants as written
-use Rattle.fn_moves.specs.declared.control.Want.TheVariants as wants
-use Rattle.fn_moves.specs.declared.control.Pairs.{Pairs}
-use Rattle.fn_moves.specs.declared.control.TokenMove.{TokenMove}
-use Rattle.fn_moves.specs.declared.control.TokenMove.TheVariants as moves
-use Rattle.fn_moves.specs.declared.language.Language.{Language}
-use Rattle.fn_moves.specs.Kinds.{has_seen, with_pair}
-use Rattle.fn_moves.specs.Meaning.{to_formulas}
-use Rattle.fn_moves.specs.Controls.{has_chars, lacks, lacks_with, lacks_block}
-use Rattle.fn_moves.specs.FixedMoves.{at_fixed}
-use Rattle.fn_moves.specs.LineMoves.{at_line, at_block_first, at_block_second}
-use Rattle.fn_moves.specs.GuardMoves.{at_result}
+use Rattle.fn_tokens.specs.declared.control.Written.{Written}
+use Rattle.fn_tokens.specs.declared.control.Written.TheVariants as written
+use Rattle.fn_tokens.specs.declared.control.Want.TheVariants as wants
+use Rattle.fn_tokens.specs.declared.control.Pairs.{Pairs}
+use Rattle.fn_tokens.specs.declared.control.TokenMove.{TokenMove}
+use Rattle.fn_tokens.specs.declared.control.TokenMove.TheVariants as moves
+use Rattle.fn_tokens.specs.declared.language.Language.{Language}
+use Rattle.fn_tokens.specs.Kinds.{has_seen, with_pair}
+use Rattle.fn_tokens.specs.Meaning.{to_formulas}
+use Rattle.fn_tokens.specs.Controls.{has_chars, lacks, lacks_with, lacks_block}
+use Rattle.fn_tokens.specs.FixedMoves.{at_fixed}
+use Rattle.fn_tokens.specs.LineMoves.{at_line, at_block_first, at_block_second}
+use Rattle.fn_tokens.specs.GuardMoves.{at_result}
 use Rattle.fn_grammar.specs.Print.{head_tokens}
 use Rattle.fn_text.specs.Reader.{Nesting, blocks_of}
-use Rattle.fn_grammar.specs.Grammar.{written_as, WrittenCase, WrittenBlock, result_written_as, case_written_as, block_written_as}
-use Rattle.fn_grammar.specs.Grammar.{block_made, is_allowed_result, is_allowed_case, is_allowed_block}
+use Rattle.fn_grammar.specs.Grammar.{written_as, WrittenCase, WrittenBlock, result_written_as, case_written_as}
+use Rattle.fn_grammar.specs.Grammar.{block_written_as, block_made, is_allowed_result, is_allowed_case, is_allowed_block}
 use Rattle.fn_grammar.proofs.KindLists.{each_pair_from, kind_fails, same_pair}
 use Rattle.fn_text.proofs.SeenPairs.{has_seen-with_pair}
-use Rattle.fn_text.proofs.ReadIsWritten.Moves.{by_line, by_block_first, by_block_second, by_block_end, by_result, by_result_position}
-use Rattle.fn_text.proofs.ReadIsWritten.Moves.{by_result_offset, by_result_number, by_result_end}
-use Rattle.fn_text.proofs.ReadIsWritten.States.{to_phrases, Phrases, front_of, atoms_part, nots_front, level_front, levels_front}
-use Rattle.fn_text.proofs.ReadIsWritten.States.{atoms_of_level, atoms_of_levels, here, AreNestings, IsGuard, IsQuiet, AreBlocks, lines_of}
-use Rattle.fn_text.proofs.ReadIsWritten.States.{BehindColon, result_front, Reached, allowed_part, nesting_part}
+use Rattle.fn_text.proofs.ReadIsWritten.Moves.{by_line, by_block_first, by_block_second, by_block_end, by_result}
+use Rattle.fn_text.proofs.ReadIsWritten.Moves.{by_result_position, by_result_offset, by_result_number, by_result_end}
+use Rattle.fn_text.proofs.ReadIsWritten.States.{to_phrases, Phrases, front_of, atoms_part, nots_front, level_front}
+use Rattle.fn_text.proofs.ReadIsWritten.States.{levels_front, atoms_of_level, atoms_of_levels, here, AreNestings}
+use Rattle.fn_text.proofs.ReadIsWritten.States.{IsGuard, IsQuiet, AreBlocks, lines_of, BehindColon, result_front}
+use Rattle.fn_text.proofs.ReadIsWritten.States.{Reached, allowed_part, nesting_part}
 use Rattle.fn_text.proofs.ReadIsWritten.Guards.{Steps}
 
 -- where no guard was open, one begins
-pub quiet_guard : (chars : Bool) (level : Nesting _) (outer : List (Nesting _)) → IsQuiet level outer → IsGuard chars level outer
+pub quiet_guard : (chars : Bool) (level : Nesting _) (outer : List (Nesting _)) → IsQuiet level outer
+    → IsGuard chars level outer
 quiet_guard chars level outer q =
     let outside = q.outside in
     let nots = q.nots in
@@ -68,14 +70,16 @@ quiet_guard chars level outer q =
       depth = omega (arith, outside, nots);
     }
 
-quiet_atoms : (level : Nesting _) (outer : List (Nesting _)) → IsQuiet level outer → 0 ≡ atoms_of_levels outer + atoms_of_level level
+quiet_atoms : (level : Nesting _) (outer : List (Nesting _)) → IsQuiet level outer
+    → 0 ≡ atoms_of_levels outer + atoms_of_level level
 quiet_atoms level outer q =
     let any : atoms_part level.any ≡ 0 = ap (λ x. atoms_part x) q.any in
     let all : atoms_part level.all ≡ 0 = ap (λ x. atoms_part x) q.all in
     let around : atoms_of_levels outer ≡ 0 = ap (λ x. atoms_of_levels x) q.outer_none in
     omega (arith, any, all, around)
 
-quiet_front : (level : Nesting _) (outer : List (Nesting _)) → IsQuiet level outer → levels_front outer ++ level_front level ≡ []
+quiet_front : (level : Nesting _) (outer : List (Nesting _)) → IsQuiet level outer
+    → levels_front outer ++ level_front level ≡ []
 quiet_front level outer q =
     ap (λ x. levels_front x ++ level_front level) q.outer_none
     ∙ (ap (λ x. front_of (Known words.Or) x ++ front_of (Known words.And) level.all ++ nots_front level.nots) q.any
@@ -109,21 +113,29 @@ end_steps s ts h full =
     )
 
 -- a token that goes on where a line begins
-pub line_steps : (s : Phrases) (at : Placed) (ts : List Token) (t : Token) (move : TokenMove) → Reached s wants.Line ts →
-    at_line s.control at t ≡ Some move → Steps s ts t move
+pub line_steps : (s : Phrases) (at : Placed) (ts : List Token) (t : Token) (move : TokenMove) → Reached s wants.Line ts
+    → at_line s.control at t ≡ Some move → Steps s ts t move
 line_steps s at ts t move h e =
     by_line (Steps s ts) s.control at t move e
-    (λ test. (h.0, not-true _ (and_parts _ _ test).0, not-true _ (and_parts _ _ test).1, ap (λ x. x ++ Known words.Assume ∷ []) h.1))
-    (h.0, ap (λ x. x ++ Known words.Block ∷ []) h.1)
+    (λ test. (
+      h.0,
+      not-true _ (and_parts _ _ test).0,
+      not-true _ (and_parts _ _ test).1,
+      ap (λ x. x ++ Known words.Assume ∷ []) h.1,
+    )) (h.0, ap (λ x. x ++ Known words.Block ∷ []) h.1)
     (λ test.
     let room : s.control.cases < 64 = ltb-true _ _ (and_parts _ _ test).1 in (
       (
-        (h.0.0, record { begun_so = (and_parts _ _ test).0; counted = ap (λ n. n + 1) h.0.2; room = omega (arith, room) }),
+        (
+          h.0.0,
+          record { begun_so = (and_parts _ _ test).0; counted = ap (λ n. n + 1) h.0.2; room = omega (arith, room) },
+        ),
         quiet_guard (has_chars s.control) (here s) s.outer h.0.1,
         quiet_atoms (here s) s.outer h.0.1,
         omega arith,
       ),
-      ap (λ x. x ++ Known words.Case ∷ []) h.1 ∙ ap (λ x. lines_of s ++ Known words.Case ∷ x) (sym (quiet_front (here s) s.outer h.0.1)),
+      ap (λ x. x ++ Known words.Case ∷ []) h.1
+          ∙ ap (λ x. lines_of s ++ Known words.Case ∷ x) (sym (quiet_front (here s) s.outer h.0.1)),
     ))
     (λ test. end_steps s ts h (not-true _ test))
 
@@ -146,14 +158,16 @@ counted_more k l blocks block =
     ap (λ x. count_by (is_for k l) x) (map-append (block_made to_formulas) blocks (block ∷ []))
     ∙ sum_by_push (λ x. cond (is_for k l x) 1 0) (map (block_made to_formulas) blocks) (block_made to_formulas block)
 
-counted_once : (here seen : Bool) → (here ≡ true → seen ≡ false) → cond seen 1 0 + cond here 1 0 ≡ cond (here || seen) 1 0
+counted_once : (here seen : Bool) → (here ≡ true → seen ≡ false)
+    → cond seen 1 0 + cond here 1 0 ≡ cond (here || seen) 1 0
 counted_once true true fresh = let no : true ≡ false = fresh refl in absurd (cc)
 counted_once true false fresh = refl
 counted_once false true fresh = refl
 counted_once false false fresh = refl
 
 pub pairs_more : (seen : Pairs) (k l i j : Kind) → has_seen seen k l ≡ false →
-    cond (has_seen seen i j) 1 0 + cond (is_same_kind k i && is_same_kind l j) 1 0 ≡ cond (has_seen (with_pair seen k l) i j) 1 0
+    cond (has_seen seen i j) 1 0 + cond (is_same_kind k i && is_same_kind l j) 1 0
+    ≡ cond (has_seen (with_pair seen k l) i j) 1 0
 pairs_more seen k l i j fresh =
     counted_once (is_same_kind k i && is_same_kind l j) (has_seen seen i j)
     (λ here. same_pair (λ x y. has_seen seen x y ≡ false) k l i j here fresh)
@@ -163,7 +177,8 @@ pub seen_more : (head : Head) (seen : Pairs) (k l i j : Kind) → is_declared he
     (has_seen seen i j ≡ true → is_declared_pair head i j ≡ true) → has_seen (with_pair seen k l) i j ≡ true →
     is_declared_pair head i j ≡ true
 seen_more head seen k l i j first second before h =
-    elim (or_cases (is_same_kind k i && is_same_kind l j) (has_seen seen i j) (sym (has_seen-with_pair seen k l i j) ∙ h)) [
+    elim (or_cases (is_same_kind k i && is_same_kind l j) (has_seen seen i j)
+    (sym (has_seen-with_pair seen k l i j) ∙ h)) [
       | inl here ↦ same_pair (λ x y. is_declared_pair head x y ≡ true) k l i j here (and_from _ _ first second)
       | inr earlier ↦ before earlier
     ]
@@ -174,8 +189,10 @@ allowed_more blocks block before now =
     list_all-append is_allowed_block blocks (block ∷ []) ∙ and_from _ _ before (and_from _ _ now refl)
 
 -- the blocks read so far, with a new one that has no case yet
-begun_block : (language : Language) (head : Head) (begun : Bool) (seen : Pairs) (blocks : List WrittenBlock) (k l : Kind) →
-    is_declared head k ≡ true → is_declared head l ≡ true → has_seen seen k l ≡ false → AreBlocks language head begun seen blocks →
+begun_block : (language : Language) (head : Head) (begun : Bool) (seen : Pairs)
+    (blocks : List WrittenBlock) (k l : Kind) →
+    is_declared head k ≡ true → is_declared head l ≡ true → has_seen seen k l ≡ false
+    → AreBlocks language head begun seen blocks →
     AreBlocks language head true (with_pair seen k l) (blocks ++ record { first = k; second = l; cases = [] } ∷ [])
 begun_block language head begun seen blocks k l first second fresh h = record {
   some_kind = h.some_kind;
@@ -192,17 +209,18 @@ pub block_front : (ts head : List Token) (blocks : List WrittenBlock) (k l : Kin
     (ts ++ Known (words.Kind l) ∷ []) ++ LineEnd ∷ []
     ≡ head ++ flat_map block_written_as (blocks ++ record { first = k; second = l; cases = [] } ∷ [])
 block_front ts head blocks k l e =
-    rw (e, flat_map-append block_written_as blocks (record { first = k; second = l; cases = [] } ∷ [])) (simp append_assoc)
+    rw (e, flat_map-append block_written_as blocks (record { first = k; second = l; cases = [] } ∷ []))
+    (simp append_assoc)
 
 -- the second kind of a block
-pub block_second_steps : (s : Phrases) (k : Kind) (ts : List Token) (t : Token) (move : TokenMove) → Reached s (wants.BlockSecond k) ts →
-    at_block_second s.control k t ≡ Some move → Steps s ts t move
+pub block_second_steps : (s : Phrases) (k : Kind) (ts : List Token) (t : Token) (move : TokenMove)
+    → Reached s (wants.BlockSecond k) ts → at_block_second s.control k t ≡ Some move → Steps s ts t move
 block_second_steps s k ts t move h e =
     by_block_second (Steps s ts) s.control k t move e
     (λ l declared fresh. (
       (
-        begun_block s.control.language s.control.head s.control.begun s.control.seen (blocks_of to_phrases s) k l h.1 declared
-            (not-true _ fresh) h.0.0,
+        begun_block s.control.language s.control.head s.control.begun s.control.seen (blocks_of to_phrases s) k l h.1
+            declared (not-true _ fresh) h.0.0,
         h.0.1,
         refl,
       ),
@@ -229,16 +247,18 @@ pub all_more : {X : Type 0} (test : X → Bool) (xs : List X) (x : X) → list_a
     list_all test (xs ++ x ∷ []) ≡ true
 all_more test xs x before now = list_all-append test xs (x ∷ []) ∙ and_from _ _ before (and_from _ _ now refl)
 
-pub all_front : {X : Type 0} (test : X → Bool) (xs ys : List X) → list_all test (xs ++ ys) ≡ true → list_all test xs ≡ true
+pub all_front : {X : Type 0} (test : X → Bool) (xs ys : List X) → list_all test (xs ++ ys) ≡ true
+    → list_all test xs ≡ true
 all_front test xs ys h = (and_parts _ _ (sym (list_all-append test xs ys) ∙ h)).0
 
-pub all_back : {X : Type 0} (test : X → Bool) (xs ys : List X) → list_all test (xs ++ ys) ≡ true → list_all test ys ≡ true
+pub all_back : {X : Type 0} (test : X → Bool) (xs ys : List X) → list_all test (xs ++ ys) ≡ true
+    → list_all test ys ≡ true
 all_back test xs ys h = (and_parts (list_all test xs) _ (sym (list_all-append test xs ys) ∙ h)).1
 
 -- the blocks read so far, with one case more in the last of them
 case_more : (language : Language) (head : Head) (begun : Bool) (seen : Pairs) (done : List WrittenBlock) (k l : Kind)
-    (cases : List WrittenCase) (c : WrittenCase) → begun ≡ true → length cases + 1 ≤ 64 → is_allowed_case (compares_chars k l) c ≡ true →
-    AreBlocks language head begun seen (all_blocks begun done (with_cases k l cases)) →
+    (cases : List WrittenCase) (c : WrittenCase) → begun ≡ true → length cases + 1 ≤ 64 → is_allowed_case
+    (compares_chars k l) c ≡ true → AreBlocks language head begun seen (all_blocks begun done (with_cases k l cases)) →
     AreBlocks language head begun seen (all_blocks begun done (with_cases k l (cases ++ c ∷ [])))
 case_more language head false seen done k l cases c so room now h = absurd (cc)
 case_more language head true seen done k l cases c so room now h =
@@ -253,17 +273,19 @@ case_more language head true seen done k l cases c so room now h =
       counts = λ i j. counted_more i j done new ∙ (sym (counted_more i j done old) ∙ h.counts i j);
       declared = h.declared;
       allowed = all_more is_allowed_block done new (all_front is_allowed_block done (old ∷ []) h.allowed)
-          (and_from _ _ (le-leb _ _ few) (all_more (is_allowed_case (compares_chars k l)) cases c (and_parts _ _ block).1 now));
+          (and_from _ _ (le-leb _ _ few)
+          (all_more (is_allowed_case (compares_chars k l)) cases c (and_parts _ _ block).1 now));
       none = λ no. absurd (cc);
     }
 
 last_lines : (head done lines line : List Token) (a b c d : Token) →
-    head ++ (done ++ (a ∷ b ∷ c ∷ d ∷ lines ++ [])) ++ line ≡ head ++ (done ++ (a ∷ b ∷ c ∷ d ∷ (lines ++ (line ++ [])) ++ []))
+    head ++ (done ++ (a ∷ b ∷ c ∷ d ∷ lines ++ [])) ++ line
+    ≡ head ++ (done ++ (a ∷ b ∷ c ∷ d ∷ (lines ++ (line ++ [])) ++ []))
 last_lines head done lines line a b c d = simp (append_assoc, append-nil)
 
 -- the tokens of a case after those of the blocks read so far are those of the blocks with that case
-pub case_front_more : (head : List Token) (begun : Bool) (done : List WrittenBlock) (k l : Kind) (cases : List WrittenCase)
-    (c : WrittenCase) → begun ≡ true →
+pub case_front_more : (head : List Token) (begun : Bool) (done : List WrittenBlock) (k l : Kind)
+    (cases : List WrittenCase) (c : WrittenCase) → begun ≡ true →
     (head ++ flat_map block_written_as (all_blocks begun done (with_cases k l cases))) ++ case_written_as k c
     ≡ head ++ flat_map block_written_as (all_blocks begun done (with_cases k l (cases ++ c ∷ [])))
 case_front_more head false done k l cases c so = absurd (cc)
@@ -271,9 +293,10 @@ case_front_more head true done k l cases c so =
     let others = flat_map block_written_as done in
     let before = flat_map (case_written_as k) cases in
     ap (λ x. head ++ x ++ case_written_as k c) (flat_map-append block_written_as done (with_cases k l cases ∷ []))
-    ∙ (last_lines head others before (case_written_as k c) (Known words.Block) (Known (words.Kind k)) (Known (words.Kind l)) LineEnd
-    ∙ (ap (λ x. head ++ (others ++ (Known words.Block ∷ Known (words.Kind k) ∷ Known (words.Kind l) ∷ LineEnd ∷ x ++ [])))
-    (sym (flat_map-append (case_written_as k) cases (c ∷ [])))
+    ∙ (last_lines head others before (case_written_as k c) (Known words.Block) (Known (words.Kind k))
+    (Known (words.Kind l)) LineEnd
+    ∙ (ap (λ x. head ++ (others ++ (Known words.Block ∷ Known (words.Kind k) ∷ Known (words.Kind l) ∷ LineEnd ∷ x
+    ++ []))) (sym (flat_map-append (case_written_as k) cases (c ∷ [])))
     ∙ ap (λ x. head ++ x) (sym (flat_map-append block_written_as done (with_cases k l (cases ++ c ∷ []) ∷ [])))))
 
 pub line_front : (ts lines guard result : List Token) → ts ≡ lines ++ Known words.Case ∷ (guard ++ Colon ∷ result) →
@@ -292,14 +315,14 @@ end_case_steps s w ts h ok e =
     let valid : is_allowed_case (compares_chars s.control.first s.control.second) c ≡ true =
     and_from _ _ (and_from _ _ (and_from _ _ read.allowed (le-leb _ _ read.few)) (le-leb _ _ read.shallow)) ok in (
       (
-        case_more s.control.language s.control.head s.control.begun s.control.seen s.done s.control.first s.control.second s.cases c
-            h.0.1.begun_so room valid h.0.0,
+        case_more s.control.language s.control.head s.control.begun s.control.seen s.done s.control.first
+            s.control.second s.cases c h.0.1.begun_so room valid h.0.0,
         h.1,
         counted ∙ sym (length-append s.cases (c ∷ [])),
       ),
       line_front ts (lines_of s) (written_as s.guard) (result_written_as s.control.first w) e
-          ∙ case_front_more (head_tokens s.control.language s.control.head) s.control.begun s.done s.control.first s.control.second s.cases c
-          h.0.1.begun_so,
+          ∙ case_front_more (head_tokens s.control.language s.control.head) s.control.begun s.done s.control.first
+          s.control.second s.cases c h.0.1.begun_so,
     )
 
 pub result_steps : (s : Phrases) (ts : List Token) (t : Token) (move : TokenMove) → Reached s wants.Result ts →
@@ -309,8 +332,8 @@ result_steps s ts t move h e =
     (h.0, refl, in_result (lines_of s) ts (written_as s.guard) [] _ h.1)
     (h.0, in_result (lines_of s) ts (written_as s.guard) [] _ h.1)
 
-pub result_position_steps : (s : Phrases) (ts : List Token) (t : Token) (move : TokenMove) → Reached s wants.ResultPosition ts →
-    at_fixed wants.ResultPosition t ≡ Some move → Steps s ts t move
+pub result_position_steps : (s : Phrases) (ts : List Token) (t : Token) (move : TokenMove)
+    → Reached s wants.ResultPosition ts → at_fixed wants.ResultPosition t ≡ Some move → Steps s ts t move
 result_position_steps s ts t move h e =
     by_result_position (Steps s ts) t move e
     (λ side. (
@@ -331,7 +354,8 @@ result_offset_steps s side ts t move h e =
     (end_case_steps s (written.At side) ts h.0 refl h.1)
 
 pub result_number_steps : (s : Phrases) (side : Side) (sign : Sign) (ts : List Token) (t : Token) (move : TokenMove) →
-    Reached s (wants.ResultNumber side sign) ts → at_fixed (wants.ResultNumber side sign) t ≡ Some move → Steps s ts t move
+    Reached s (wants.ResultNumber side sign) ts
+    → at_fixed (wants.ResultNumber side sign) t ≡ Some move → Steps s ts t move
 result_number_steps s side sign ts t move h e =
     by_result_number (Steps s ts) side sign t move e
     (λ n small. (
@@ -341,7 +365,7 @@ result_number_steps s side sign ts t move h e =
           (result_written_as s.control.first (written.At side) ++ tokens.Sign sign ∷ []) (Number n ∷ []) h.1,
     ))
 
-pub result_end_steps : (s : Phrases) (w : Written) (ts : List Token) (t : Token) (move : TokenMove) → Reached s (wants.ResultEnd w) ts →
-    at_fixed (wants.ResultEnd w) t ≡ Some move → Steps s ts t move
+pub result_end_steps : (s : Phrases) (w : Written) (ts : List Token) (t : Token) (move : TokenMove)
+    → Reached s (wants.ResultEnd w) ts → at_fixed (wants.ResultEnd w) t ≡ Some move → Steps s ts t move
 result_end_steps s w ts t move h e =
     by_result_end (Steps s ts) w t move e (end_case_steps s w ts h.0 h.1 h.2)

@@ -1,25 +1,28 @@
 -- What the reader reads, where it keeps phrases, is in the grammar.
-use Rattle.std.proofs.Common.{◌≡◌, IsTrue, List, [], ◌∷◌, ◌++◌, Option, Some, None, Ok, refl, sym, subst, append_assoc, append-nil}
+use Rattle.std.proofs.Common.{◌≡◌, IsTrue, List, [], ◌∷◌, ◌++◌, Option, Some, None, Ok, refl, sym, subst, append_assoc}
+use Rattle.std.proofs.Common.{append-nil}
 use Rattle.fn_rules.specs.declared.function.Head.{Head}
 use Rattle.fn_tokens.specs.declared.token.Token.{Token}
 use Rattle.fn_tokens.specs.declared.token.Placed.{Placed}
-use Rattle.fn_moves.specs.declared.control.Want.{Want}
-use Rattle.fn_moves.specs.declared.control.Want.TheVariants as wants
-use Rattle.fn_moves.specs.declared.control.TokenMove.{TokenMove}
-use Rattle.fn_moves.specs.declared.language.Language.{Language}
-use Rattle.fn_moves.specs.Moves.{move_for}
+use Rattle.fn_tokens.specs.declared.control.Want.{Want}
+use Rattle.fn_tokens.specs.declared.control.Want.TheVariants as wants
+use Rattle.fn_tokens.specs.declared.control.TokenMove.{TokenMove}
+use Rattle.fn_tokens.specs.declared.language.Language.{Language}
+use Rattle.fn_tokens.specs.Moves.{move_for}
 use Rattle.fn_text.specs.Reader.{moved, after_move, ended, read_from, first_state}
 use Rattle.fn_grammar.specs.Grammar.{WrittenBlock, file_written_as, is_allowed_file}
 use Rattle.fn_tokens.specs.Tokens.{bare}
 use Rattle.fn_text.proofs.WrittenIsRead.Guards.{going}
 use Rattle.fn_text.proofs.SeenPairs.{has_seen-none}
 use Rattle.fn_text.proofs.ReadIsWritten.States.{to_phrases, Phrases, Reached}
-use Rattle.fn_text.proofs.ReadIsWritten.Guards.{Steps, operand_steps, comparison_steps, right_steps, operator_steps, offset_steps}
-use Rattle.fn_text.proofs.ReadIsWritten.Guards.{number_steps}
-use Rattle.fn_text.proofs.ReadIsWritten.Heads.{otfn_steps, version_steps, text_steps, mode_steps, kinds_steps, next_kind_steps}
-use Rattle.fn_text.proofs.ReadIsWritten.Heads.{line_end_steps, assumed_steps, differ_steps, file_end_steps}
-use Rattle.fn_text.proofs.ReadIsWritten.Blocks.{line_steps, block_first_steps, block_second_steps, block_end_steps, result_steps}
-use Rattle.fn_text.proofs.ReadIsWritten.Blocks.{result_position_steps, result_offset_steps, result_number_steps, result_end_steps}
+use Rattle.fn_text.proofs.ReadIsWritten.Guards.{Steps, operand_steps, comparison_steps, right_steps, operator_steps}
+use Rattle.fn_text.proofs.ReadIsWritten.Guards.{offset_steps, number_steps}
+use Rattle.fn_text.proofs.ReadIsWritten.Heads.{otfn_steps, version_steps, text_steps, mode_steps, kinds_steps}
+use Rattle.fn_text.proofs.ReadIsWritten.Heads.{next_kind_steps, line_end_steps, assumed_steps, differ_steps}
+use Rattle.fn_text.proofs.ReadIsWritten.Heads.{file_end_steps}
+use Rattle.fn_text.proofs.ReadIsWritten.Blocks.{line_steps, block_first_steps, block_second_steps, block_end_steps}
+use Rattle.fn_text.proofs.ReadIsWritten.Blocks.{result_steps, result_position_steps, result_offset_steps}
+use Rattle.fn_text.proofs.ReadIsWritten.Blocks.{result_number_steps, result_end_steps}
 
 -- each token that goes on
 pub token_steps : (s : Phrases) (want : Want) (ts : List Token) (at : Placed) (move : TokenMove) → Reached s want ts →
@@ -66,9 +69,10 @@ ended_file s _ ts parts h e = absurd (cc)
 
 turned_file : (s : Phrases) (ts : List Token) (at : Placed) (rest : List Placed) (parts : Head × List WrittenBlock) →
     Reached s s.control.want ts →
-    ((after : Phrases) (more : List Token) → Reached after after.control.want more → read_from to_phrases after rest ≡ Ok parts →
-    IsFile (more ++ bare rest) parts) → (move : Option TokenMove) → move_for s.control at s.control.want at.token ≡ move →
-    going to_phrases rest (after_move to_phrases s at move) ≡ Ok parts → IsFile (ts ++ at.token ∷ bare rest) parts
+    ((after : Phrases) (more : List Token) → Reached after after.control.want more
+    → read_from to_phrases after rest ≡ Ok parts →
+    IsFile (more ++ bare rest) parts) → (move : Option TokenMove) → move_for s.control at s.control.want at.token ≡ move
+    → going to_phrases rest (after_move to_phrases s at move) ≡ Ok parts → IsFile (ts ++ at.token ∷ bare rest) parts
 turned_file s ts at rest parts h others None same e = absurd (cc)
 turned_file s ts at rest parts h others (Some move) same e =
     subst (λ x. IsFile x parts) (append_assoc ts (at.token ∷ []) (bare rest))

@@ -1,8 +1,8 @@
 -- A token that goes on in a guard: what is known of the state behind it.
 use Rattle.std.proofs.lemmas.Bool.{and_from, ltb-true, eqb-true}
 use Rattle.fn_tokens.specs.declared.token.Token.TheVariants as tokens
-use Rattle.std.proofs.Common.{◌≡◌, ℕ, zero, suc, ◌+◌, ◌<◌, ◌≤◌, Bool, true, List, [], ◌∷◌, ◌++◌, Option, Some, None, refl, sym}
-use Rattle.std.proofs.Common.{ap, ◌∙◌, append_assoc, append-nil, add-one, arith}
+use Rattle.std.proofs.Common.{◌≡◌, ℕ, zero, suc, ◌+◌, ◌<◌, ◌≤◌, Bool, true, List, [], ◌∷◌, ◌++◌, Option, Some, None}
+use Rattle.std.proofs.Common.{refl, sym, ap, ◌∙◌, append_assoc, append-nil, add-one, arith}
 use Rattle.fn_rules.specs.declared.guard.Sort.{Sort}
 use Rattle.fn_rules.specs.declared.guard.Sort.TheVariants.{Pos, Site, Char}
 use Rattle.fn_rules.specs.declared.guard.Side.{Side}
@@ -14,18 +14,18 @@ use Rattle.fn_tokens.specs.declared.token.Token.{Token}
 use Rattle.fn_tokens.specs.declared.token.Token.TheVariants.{Known, Number, Open, Close, Colon}
 use Rattle.fn_tokens.specs.declared.token.Word.TheVariants as words
 use Rattle.fn_tokens.specs.declared.token.Sign.{Sign}
-use Rattle.fn_moves.specs.declared.control.Want.TheVariants as wants
-use Rattle.fn_moves.specs.declared.control.TokenMove.{TokenMove}
-use Rattle.fn_moves.specs.declared.control.TokenMove.TheVariants as moves
-use Rattle.fn_moves.specs.Controls.{has_chars}
-use Rattle.fn_moves.specs.FixedMoves.{at_fixed}
-use Rattle.fn_moves.specs.GuardMoves.{at_operand, at_operator, at_offset}
+use Rattle.fn_tokens.specs.declared.control.Want.TheVariants as wants
+use Rattle.fn_tokens.specs.declared.control.TokenMove.{TokenMove}
+use Rattle.fn_tokens.specs.declared.control.TokenMove.TheVariants as moves
+use Rattle.fn_tokens.specs.Controls.{has_chars}
+use Rattle.fn_tokens.specs.FixedMoves.{at_fixed}
+use Rattle.fn_tokens.specs.GuardMoves.{at_operand, at_operator, at_offset}
 use Rattle.fn_text.specs.Reader.{Nesting, negate, join, choose, disjunction, closed_parentheses, moved}
 use Rattle.fn_grammar.specs.Grammar.{Phrase, Compare, Shifted, written_as, atoms_in, nesting_in, is_allowed_phrase}
 use Rattle.fn_text.proofs.ReadIsWritten.Moves.{by_operand, by_comparison, by_right, by_operator, by_offset, by_number}
-use Rattle.fn_text.proofs.ReadIsWritten.States.{to_phrases, Phrases, front_of, allowed_part, atoms_part, nesting_part, nots_front}
-use Rattle.fn_text.proofs.ReadIsWritten.States.{level_front, levels_front, atoms_of_level, atoms_of_levels, here, guard_front, IsNesting}
-use Rattle.fn_text.proofs.ReadIsWritten.States.{AreNestings, IsOperand, lines_of, Reached}
+use Rattle.fn_text.proofs.ReadIsWritten.States.{to_phrases, Phrases, front_of, allowed_part, atoms_part, nesting_part}
+use Rattle.fn_text.proofs.ReadIsWritten.States.{nots_front, level_front, levels_front, atoms_of_level, atoms_of_levels}
+use Rattle.fn_text.proofs.ReadIsWritten.States.{here, guard_front, IsNesting, AreNestings, IsOperand, lines_of, Reached}
 
 -- behind a token and its move the state is reached by one token more
 abbrev pub Steps : Phrases → List Token → Token → TokenMove → Type 0
@@ -47,14 +47,17 @@ conjunction_at level last = join to_phrases level.all (negate to_phrases level.n
 abbrev pub disjunction_at : Nesting Phrase → Phrase Tight → Phrase Loose
 disjunction_at level last = choose to_phrases level.any (conjunction_at level last)
 
-behind_and : (c nots last : List Token) → c ++ Known words.And ∷ (nots ++ last) ≡ c ++ Known words.And ∷ [] ++ nots ++ last
+behind_and : (c nots last : List Token)
+    → c ++ Known words.And ∷ (nots ++ last) ≡ c ++ Known words.And ∷ [] ++ nots ++ last
 behind_and c nots last = simp append_assoc
 
 join_written : (all : Option (Phrase Joined)) (n : ℕ) (u : Phrase Tight) →
-    written_as (join to_phrases all (negate to_phrases n u)) ≡ front_of (Known words.And) all ++ nots_front n ++ written_as u
+    written_as (join to_phrases all (negate to_phrases n u))
+    ≡ front_of (Known words.And) all ++ nots_front n ++ written_as u
 join_written None n u = nots_written n u
 join_written (Some c) n u =
-    ap (λ x. written_as c ++ Known words.And ∷ x) (nots_written n u) ∙ behind_and (written_as c) (nots_front n) (written_as u)
+    ap (λ x. written_as c ++ Known words.And ∷ x) (nots_written n u)
+    ∙ behind_and (written_as c) (nots_front n) (written_as u)
 
 choose_written : (any : Option (Phrase Loose)) (c : Phrase Joined) →
     written_as (choose to_phrases any c) ≡ front_of (Known words.Or) any ++ written_as c
@@ -80,41 +83,50 @@ nots_is chars outside atoms (suc n) u p =
     record { allowed = inner.allowed; nested = omega (arith, depth); counted = inner.counted }
 
 -- so is what an operand ends, behind what stands before the last `and`
-join_is : (chars : Bool) (outside atoms : ℕ) (all : Option (Phrase Joined)) (u : Phrase Tight) → allowed_part chars all ≡ true →
-    outside + nesting_part all ≤ 32 → IsPhrase chars outside atoms u →
+join_is : (chars : Bool) (outside atoms : ℕ) (all : Option (Phrase Joined)) (u : Phrase Tight)
+    → allowed_part chars all ≡ true → outside + nesting_part all ≤ 32 → IsPhrase chars outside atoms u →
     IsPhrase chars outside (atoms_part all + atoms) (join to_phrases all u)
 join_is chars outside atoms None u before around p =
     let count = p.counted in record { allowed = p.allowed; nested = p.nested; counted = omega (arith, count) }
 join_is chars outside atoms (Some c) u before around p =
     let nested = p.nested in
     let count = p.counted in
-    record { allowed = and_from _ _ before p.allowed; nested = omega (arith, around, nested); counted = omega (arith, count) }
+    record {
+      allowed = and_from _ _ before p.allowed;
+      nested = omega (arith, around, nested);
+      counted = omega (arith, count);
+    }
 
 -- and behind what stands before the last `or`
-choose_is : (chars : Bool) (outside atoms : ℕ) (any : Option (Phrase Loose)) (c : Phrase Joined) → allowed_part chars any ≡ true →
-    outside + nesting_part any ≤ 32 → IsPhrase chars outside atoms c →
+choose_is : (chars : Bool) (outside atoms : ℕ) (any : Option (Phrase Loose)) (c : Phrase Joined)
+    → allowed_part chars any ≡ true → outside + nesting_part any ≤ 32 → IsPhrase chars outside atoms c →
     IsPhrase chars outside (atoms_part any + atoms) (choose to_phrases any c)
 choose_is chars outside atoms None c before around p =
     let count = p.counted in record { allowed = p.allowed; nested = p.nested; counted = omega (arith, count) }
 choose_is chars outside atoms (Some d) c before around p =
     let nested = p.nested in
     let count = p.counted in
-    record { allowed = and_from _ _ before p.allowed; nested = omega (arith, around, nested); counted = omega (arith, count) }
+    record {
+      allowed = and_from _ _ before p.allowed;
+      nested = omega (arith, around, nested);
+      counted = omega (arith, count);
+    }
 
 -- the conjunction that an operand ends is within the limits, where its level and the operand are
-conjunction_is : (chars : Bool) (level : Nesting Phrase) (last : Phrase Tight) → IsNesting chars level → IsOperand chars level last →
-    IsPhrase chars level.outside (atoms_part level.all + atoms_in last) (conjunction_at level last)
+conjunction_is : (chars : Bool) (level : Nesting Phrase) (last : Phrase Tight) → IsNesting chars level → IsOperand chars
+    level last → IsPhrase chars level.outside (atoms_part level.all + atoms_in last) (conjunction_at level last)
 conjunction_is chars level last inner operand =
-    join_is chars level.outside (atoms_in last) level.all (negate to_phrases level.nots last) inner.all_allowed inner.all_nested
-    (nots_is chars level.outside (atoms_in last) level.nots last
+    join_is chars level.outside (atoms_in last) level.all (negate to_phrases level.nots last) inner.all_allowed
+    inner.all_nested (nots_is chars level.outside (atoms_in last) level.nots last
     record { allowed = operand.last_allowed; nested = operand.last_nested; counted = refl })
 
 -- so is the disjunction that it ends
 pub disjunction_is : (chars : Bool) (level : Nesting Phrase) (last : Phrase Tight) → IsNesting chars level →
-    IsOperand chars level last → IsPhrase chars level.outside (atoms_of_level level + atoms_in last) (disjunction_at level last)
+    IsOperand chars level last
+    → IsPhrase chars level.outside (atoms_of_level level + atoms_in last) (disjunction_at level last)
 disjunction_is chars level last inner operand =
-    let whole = choose_is chars level.outside (atoms_part level.all + atoms_in last) level.any (conjunction_at level last)
-    inner.any_allowed inner.any_nested (conjunction_is chars level last inner operand) in
+    let whole = choose_is chars level.outside (atoms_part level.all + atoms_in last) level.any
+    (conjunction_at level last) inner.any_allowed inner.any_nested (conjunction_is chars level last inner operand) in
     let count = whole.counted in
     record { allowed = whole.allowed; nested = whole.nested; counted = omega (arith, count) }
 
@@ -123,7 +135,8 @@ pub disjunction_written : (level : Nesting Phrase) (last : Phrase Tight) →
 disjunction_written level last =
     choose_written level.any (conjunction_at level last)
     ∙ (ap (λ x. front_of (Known words.Or) level.any ++ x) (join_written level.all level.nots last)
-    ∙ (regrouped (front_of (Known words.Or) level.any) (front_of (Known words.And) level.all) (nots_front level.nots) (written_as last)))
+    ∙ (regrouped (front_of (Known words.Or) level.any) (front_of (Known words.And) level.all)
+    (nots_front level.nots) (written_as last)))
   where
     regrouped : (a b c d : List Token) → a ++ (b ++ c ++ d) ≡ a ++ b ++ c ++ d
     regrouped a b c d = simp append_assoc
@@ -164,7 +177,12 @@ operand_steps s ts t move h e =
         h.0.0,
         record {
           inner =
-              record { any_allowed = refl; all_allowed = refl; any_nested = omega (arith, room); all_nested = omega (arith, room) };
+              record {
+                any_allowed = refl;
+                all_allowed = refl;
+                any_nested = omega (arith, room);
+                all_nested = omega (arith, room);
+              };
           around = (refl, inner, guard.around);
           depth = omega (arith, room);
         },
@@ -193,7 +211,8 @@ operand_steps s ts t move h e =
         few,
       ),
       retold (lines_of s) ts front (Known words.Not ∷ []) _ h.1
-          (negated_front (levels_front s.outer) (front_of (Known words.Or) s.any) (front_of (Known words.And) s.all) s.control.nots),
+          (negated_front (levels_front s.outer) (front_of (Known words.Or) s.any)
+          (front_of (Known words.And) s.all) s.control.nots),
     ))
     (λ test.
     let room : s.control.atoms < 16 = ltb-true _ _ test in (
@@ -223,7 +242,8 @@ comparison_steps s sort left ts t move h e =
 
 -- an atom without an offset
 compared_steps : (s : Phrases) (sort : Sort) (left : Side) (cmp : Cmp) (ts : List Token) →
-    Reached s (wants.Right sort left cmp) ts → Steps s ts (Known (words.Thing sort (other_side left))) (moves.Compare sort left cmp)
+    Reached s (wants.Right sort left cmp) ts
+    → Steps s ts (Known (words.Thing sort (other_side left))) (moves.Compare sort left cmp)
 compared_steps s Pos left cmp ts h =
     let depth = h.0.1.depth in (
       ((h.0.0, h.0.1, h.0.2, h.0.3), record { last_allowed = h.1; last_nested = omega (arith, depth) }),
@@ -247,8 +267,8 @@ compared_steps s Char left cmp ts h =
           (Known (words.Thing Char (other_side left)) ∷ [])),
     )
 
-pub right_steps : (s : Phrases) (sort : Sort) (left : Side) (cmp : Cmp) (ts : List Token) (t : Token) (move : TokenMove) →
-    Reached s (wants.Right sort left cmp) ts → at_fixed (wants.Right sort left cmp) t ≡ Some move → Steps s ts t move
+pub right_steps : (s : Phrases) (sort : Sort) (left : Side) (cmp : Cmp) (ts : List Token) (t : Token) (move : TokenMove)
+    → Reached s (wants.Right sort left cmp) ts → at_fixed (wants.Right sort left cmp) t ≡ Some move → Steps s ts t move
 right_steps s sort left cmp ts t move h e =
     by_right (Steps s ts) sort left cmp t move e (compared_steps s sort left cmp ts h)
 
@@ -287,8 +307,8 @@ and_steps s ts h =
         h.0.0.3,
       ),
       retold (lines_of s) ts _ (Known words.And ∷ []) _ h.1
-          (both_front (levels_front s.outer) (front_of (Known words.Or) s.any) _ _ _ (written_as s.last) (Known words.And)
-          (join_written s.all s.control.nots s.last)),
+          (both_front (levels_front s.outer) (front_of (Known words.Or) s.any) _ _ _ (written_as s.last)
+          (Known words.And) (join_written s.all s.control.nots s.last)),
     )
 
 -- `or` behind an operand
@@ -314,21 +334,24 @@ or_steps s ts h =
         h.0.0.3,
       ),
       retold (lines_of s) ts _ (Known words.Or ∷ []) _ h.1
-          (either_front (levels_front s.outer) _ _ (written_as s.last) (Known words.Or) (disjunction_written (here s) s.last)),
+          (either_front (levels_front s.outer) _ _ (written_as s.last) (Known words.Or)
+          (disjunction_written (here s) s.last)),
     )
 
 -- `)` behind an operand
 closed_front : (levels level inner front last : List Token) → inner ≡ front ++ last →
-    (((levels ++ level ++ Open ∷ []) ++ front) ++ last) ++ Close ∷ [] ≡ (levels ++ level) ++ Open ∷ (inner ++ Close ∷ [])
+    (((levels ++ level ++ Open ∷ []) ++ front) ++ last) ++ Close ∷ []
+    ≡ (levels ++ level) ++ Open ∷ (inner ++ Close ∷ [])
 closed_front levels level inner front last e = rw e (simp append_assoc)
 
 abbrev within : Phrases → List (Nesting Phrase) → Phrases
 within s levels = record s { outer = levels }
 
 -- `)` ends the innermost level, and what stood in it is an operand of the next one
-closed_steps : (s : Phrases) (levels : List (Nesting Phrase)) (ts : List Token) → Reached (within s levels) wants.Operator ts →
-    0 < s.control.outside →
-    Reached (closed_parentheses to_phrases (within s levels) levels) (closed_parentheses to_phrases (within s levels) levels).control.want (ts ++ Close ∷ [])
+closed_steps : (s : Phrases) (levels : List (Nesting Phrase)) (ts : List Token)
+    → Reached (within s levels) wants.Operator ts → 0 < s.control.outside →
+    Reached (closed_parentheses to_phrases (within s levels) levels)
+    (closed_parentheses to_phrases (within s levels) levels).control.want (ts ++ Close ∷ [])
 closed_steps s [] ts h some = let none : s.control.outside ≡ 0 = h.0.0.1.around in absurd (omega (arith, none, some))
 closed_steps s (level ∷ levels) ts h some =
     let guard = h.0.0.1 in
@@ -349,10 +372,12 @@ closed_steps s (level ∷ levels) ts h some =
         record { last_allowed = whole.allowed; last_nested = omega (arith, nested, outside) },
       ),
       retold (lines_of s) ts _ (Close ∷ []) _ h.1
-          (closed_front (levels_front levels) (level_front level) _ _ (written_as s.last) (disjunction_written (here s) s.last)),
+          (closed_front (levels_front levels) (level_front level) _ _ (written_as s.last)
+          (disjunction_written (here s) s.last)),
     )
 
-no_levels : (chars : Bool) (outside : ℕ) (levels : List (Nesting Phrase)) → AreNestings chars outside levels → outside ≡ 0 → levels ≡ []
+no_levels : (chars : Bool) (outside : ℕ) (levels : List (Nesting Phrase)) → AreNestings chars outside levels
+    → outside ≡ 0 → levels ≡ []
 no_levels chars outside [] h none = refl
 no_levels chars outside (level ∷ levels) h none = let some = h.0 in absurd (omega (arith, some, none))
 
@@ -361,7 +386,8 @@ colon_front : (levels inner front last : List Token) → levels ≡ [] → inner
 colon_front levels inner front last none e = rw (none, e) refl
 
 -- `:` behind a guard
-colon_steps : (s : Phrases) (ts : List Token) → Reached s wants.Operator ts → s.control.outside ≡ 0 → Steps s ts Colon moves.Colon
+colon_steps : (s : Phrases) (ts : List Token) → Reached s wants.Operator ts → s.control.outside ≡ 0
+    → Steps s ts Colon moves.Colon
 colon_steps s ts h none =
     let guard = h.0.0.1 in
     let atoms = h.0.0.2 in
@@ -374,10 +400,15 @@ colon_steps s ts h none =
       (
         h.0.0.0,
         record { any = refl; all = refl; nots = refl; outside = none; outer_none = top },
-        record { allowed = whole.allowed; few = omega (arith, counted, few, count); shallow = omega (arith, nested, none) },
+        record {
+          allowed = whole.allowed;
+          few = omega (arith, counted, few, count);
+          shallow = omega (arith, nested, none);
+        },
       ),
       retold (lines_of s) ts _ (Colon ∷ []) _ h.1
-          (colon_front (levels_front s.outer) _ _ (written_as s.last) (ap levels_front top) (disjunction_written (here s) s.last)),
+          (colon_front (levels_front s.outer) _ _ (written_as s.last) (ap levels_front top)
+          (disjunction_written (here s) s.last)),
     )
 
 pub operator_steps : (s : Phrases) (ts : List Token) (t : Token) (move : TokenMove) → Reached s wants.Operator ts →
@@ -403,7 +434,8 @@ shifted_front front left cmp sign n last e =
     ap (λ p. front ++ written_as p ++ tokens.Sign sign ∷ [] ++ Number n ∷ []) e ∙ simp append_assoc
 
 -- the number that ends an atom with an offset
-pub number_steps : (s : Phrases) (left : Side) (cmp : Cmp) (sign : Sign) (ts : List Token) (t : Token) (move : TokenMove) →
+pub number_steps : (s : Phrases) (left : Side) (cmp : Cmp) (sign : Sign) (ts : List Token)
+    (t : Token) (move : TokenMove) →
     Reached s (wants.Number left cmp sign) ts → at_fixed (wants.Number left cmp sign) t ≡ Some move → Steps s ts t move
 number_steps s left cmp sign ts t move h e =
     let guard = h.0.0.1 in

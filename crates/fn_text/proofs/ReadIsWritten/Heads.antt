@@ -1,6 +1,6 @@
 -- A token that goes on in the lines of the head: what is known of the state behind it.
-use Rattle.std.proofs.Common.{◌≡◌, Bool, true, false, ◌&&◌, List, [], ◌∷◌, ◌++◌, map, count_by, cond, Some, refl, sym, ap}
-use Rattle.std.proofs.Common.{◌∙◌, append_assoc, append-nil}
+use Rattle.std.proofs.Common.{◌≡◌, Bool, true, false, ◌&&◌, List, [], ◌∷◌, ◌++◌, map, count_by, cond, Some, refl, sym}
+use Rattle.std.proofs.Common.{ap, ◌∙◌, append_assoc, append-nil}
 use Rattle.std.specs.List.{flat_map, list_all}
 use Rattle.std.proofs.lemmas.Bool.{not-true}
 use Rattle.ot_model.specs.declared.op.Kind.{Kind}
@@ -13,24 +13,25 @@ use Rattle.fn_rules.specs.Building.{is_for}
 use Rattle.fn_tokens.specs.declared.token.Token.{Token}
 use Rattle.fn_tokens.specs.declared.token.Token.TheVariants.{Known, Number, LineEnd, FileEnd}
 use Rattle.fn_tokens.specs.declared.token.Word.TheVariants as words
-use Rattle.fn_moves.specs.declared.control.AfterLine.{AfterLine}
-use Rattle.fn_moves.specs.declared.control.AfterLine.TheVariants as nexts
-use Rattle.fn_moves.specs.declared.control.Want.TheVariants as wants
-use Rattle.fn_moves.specs.declared.control.Pairs.{Pairs}
-use Rattle.fn_moves.specs.declared.language.Language.{Language}
-use Rattle.fn_moves.specs.declared.control.TokenMove.{TokenMove}
-use Rattle.fn_moves.specs.declared.control.TokenMove.TheVariants as moves
-use Rattle.fn_moves.specs.Kinds.{with_kind, has_seen, declares_some, comes_next}
-use Rattle.fn_moves.specs.Languages.{number_of, has_word, has_words}
-use Rattle.fn_moves.specs.Meaning.{to_formulas}
-use Rattle.fn_moves.specs.FixedMoves.{at_fixed}
-use Rattle.fn_moves.specs.LineMoves.{at_next_kind, at_assumed}
+use Rattle.fn_tokens.specs.declared.control.AfterLine.{AfterLine}
+use Rattle.fn_tokens.specs.declared.control.AfterLine.TheVariants as nexts
+use Rattle.fn_tokens.specs.declared.control.Want.TheVariants as wants
+use Rattle.fn_tokens.specs.declared.control.Pairs.{Pairs}
+use Rattle.fn_tokens.specs.declared.language.Language.{Language}
+use Rattle.fn_tokens.specs.declared.control.TokenMove.{TokenMove}
+use Rattle.fn_tokens.specs.declared.control.TokenMove.TheVariants as moves
+use Rattle.fn_tokens.specs.Kinds.{with_kind, has_seen, declares_some, comes_next}
+use Rattle.fn_tokens.specs.Languages.{number_of, has_word, has_words}
+use Rattle.fn_tokens.specs.Meaning.{to_formulas}
+use Rattle.fn_tokens.specs.FixedMoves.{at_fixed}
+use Rattle.fn_tokens.specs.LineMoves.{at_next_kind, at_assumed}
 use Rattle.fn_grammar.specs.Print.{kind_tokens, assumption_tokens, head_tokens, first_lines}
 use Rattle.fn_text.specs.Reader.{blocks_of}
 use Rattle.fn_grammar.specs.Grammar.{WrittenBlock, block_written_as, block_made, is_allowed_block}
-use Rattle.fn_text.proofs.ReadIsWritten.Moves.{by_otfn, by_version, by_text, by_mode, by_kinds, by_next_kind, by_line_end, by_assumed}
-use Rattle.fn_text.proofs.ReadIsWritten.Moves.{by_differ, by_file_end}
-use Rattle.fn_text.proofs.ReadIsWritten.States.{to_phrases, Phrases, AreBlocks, NoBlocks, head_for, no_assumptions, Reached}
+use Rattle.fn_text.proofs.ReadIsWritten.Moves.{by_otfn, by_version, by_text, by_mode, by_kinds, by_next_kind}
+use Rattle.fn_text.proofs.ReadIsWritten.Moves.{by_line_end, by_assumed, by_differ, by_file_end}
+use Rattle.fn_text.proofs.ReadIsWritten.States.{to_phrases, Phrases, AreBlocks, NoBlocks, head_for, no_assumptions}
+use Rattle.fn_text.proofs.ReadIsWritten.States.{Reached}
 use Rattle.fn_text.proofs.Languages.{has_words-more}
 use Rattle.fn_grammar.proofs.OwnBlocks.{head_of}
 use Rattle.fn_text.proofs.ReadIsWritten.Guards.{Steps}
@@ -48,11 +49,14 @@ pub text_steps : (s : Phrases) (ts : List Token) (t : Token) (move : TokenMove) 
     at_fixed wants.Text t ≡ Some move → Steps s ts t move
 text_steps s ts t move h e = by_text (Steps s ts) t move e (h.0, ap (λ x. x ++ Known words.Text ∷ []) h.1)
 
-pub mode_steps : (s : Phrases) (ts : List Token) (t : Token) (move : TokenMove) → Reached s wants.Mode ts → at_fixed wants.Mode t ≡ Some move →
-    Steps s ts t move
+pub mode_steps : (s : Phrases) (ts : List Token) (t : Token) (move : TokenMove) → Reached s wants.Mode ts
+    → at_fixed wants.Mode t ≡ Some move → Steps s ts t move
 mode_steps s ts t move h e =
     by_mode (Steps s ts) t move e
-    (λ mode. ((h.0.0, h.0.1, ap (λ (x : Head). record x { mode = mode }) h.0.2), ap (λ x. x ++ Known (words.Mode mode) ∷ []) h.1))
+    (λ mode. (
+      (h.0.0, h.0.1, ap (λ (x : Head). record x { mode = mode }) h.0.2),
+      ap (λ x. x ++ Known (words.Mode mode) ∷ []) h.1,
+    ))
 
 -- the word that begins the line of the kinds
 pub kinds_steps : (s : Phrases) (ts : List Token) (t : Token) (move : TokenMove) → Reached s wants.Kinds ts →
@@ -65,7 +69,8 @@ kinds_steps s ts t move h e =
       h.0.1,
       h.0.2 ∙ sym (ap no_assumptions h.0.2),
       ap (λ x. x ++ Known words.Kinds ∷ []) h.1
-          ∙ ap (λ (x : Head). first_lines language mode ++ Known words.Kinds ∷ flat_map (kind_tokens x) KINDS) (sym h.0.2),
+          ∙ ap (λ (x : Head). first_lines language mode ++ Known words.Kinds ∷ flat_map (kind_tokens x) KINDS)
+          (sym h.0.2),
       ap (λ (x : Head). has_words language x) h.0.2,
     )
 
@@ -81,12 +86,13 @@ pub none_of : (s : Phrases) → NoBlocks s → blocks_of to_phrases s ≡ []
 none_of s h = no_blocks s.control.begun s.done (current s) h.begun_not h.done_none
 
 pub begun_blocks : (language : Language) (head : Head) (begun : Bool) (seen : Pairs) (blocks : List WrittenBlock) →
-    declares_some head ≡ true → has_words language head ≡ true → ((k l : Kind) → has_seen seen k l ≡ false) → blocks ≡ [] →
-    AreBlocks language head begun seen blocks
+    declares_some head ≡ true → has_words language head ≡ true → ((k l : Kind) → has_seen seen k l ≡ false)
+    → blocks ≡ [] → AreBlocks language head begun seen blocks
 begun_blocks language head begun seen blocks some speaks fresh none = record {
   some_kind = some;
   speaks = speaks;
-  counts = λ k l. ap (λ x. count_by (is_for k l) (map (block_made to_formulas) x)) none ∙ sym (ap (λ b. cond b 1 0) (fresh k l));
+  counts = λ k l. ap (λ x. count_by (is_for k l) (map (block_made to_formulas) x)) none
+      ∙ sym (ap (λ b. cond b 1 0) (fresh k l));
   declared = λ k l h. let not_so : has_seen seen k l ≡ false = fresh k l in absurd (cc);
   allowed = ap (λ x. list_all is_allowed_block x) none;
   none = λ h. none;
@@ -96,7 +102,8 @@ begun_blocks language head begun seen blocks some speaks fresh none = record {
 pub head_alone : (front : List Token) (language : Language) (head : Head) (blocks : List WrittenBlock) → blocks ≡ [] →
     front ≡ head_tokens language head → front ≡ head_tokens language head ++ flat_map block_written_as blocks
 head_alone front language head blocks none e = e
-    ∙ (sym (append-nil (head_tokens language head)) ∙ sym (ap (λ x. head_tokens language head ++ flat_map block_written_as x) none))
+    ∙ (sym (append-nil (head_tokens language head))
+    ∙ sym (ap (λ x. head_tokens language head ++ flat_map block_written_as x) none))
 
 -- the line of one kind
 pub ins_line : (language : Language) (mode : Mode) →
@@ -114,12 +121,13 @@ plain_head : (language : Language) (head : Head) → head ≡ no_assumptions hea
 unfolding head_tokens
 plain_head language head e =
     let lines = kinds_line language head ++ LineEnd ∷ [] in
-    sym (ap (λ (x : Head). lines ++ assumption_tokens x.sites_differ words.Sites ++ assumption_tokens x.chars_differ words.Chars) e
+    sym (ap (λ (x : Head). lines ++ assumption_tokens x.sites_differ words.Sites
+    ++ assumption_tokens x.chars_differ words.Chars) e
     ∙ (append-nil (lines ++ []) ∙ append-nil lines))
 
 -- a kind behind those that are declared is the last of them
-kinds_more : (k : Kind) (mode : Mode) (ins del upd sites chars : Bool) → comes_next (head_of mode ins del upd sites chars) k ≡ true →
-    flat_map (kind_tokens (head_of mode ins del upd sites chars)) KINDS ++ Known (words.Kind k) ∷ []
+kinds_more : (k : Kind) (mode : Mode) (ins del upd sites chars : Bool) → comes_next (head_of mode ins del upd sites
+    chars) k ≡ true → flat_map (kind_tokens (head_of mode ins del upd sites chars)) KINDS ++ Known (words.Kind k) ∷ []
     ≡ flat_map (kind_tokens (with_kind (head_of mode ins del upd sites chars) k)) KINDS
 kinds_more kinds.Ins mode false false false sites chars h = refl
 kinds_more kinds.Del mode false false false sites chars h = refl
@@ -135,13 +143,15 @@ with_kind-mode head kinds.Ins = refl
 with_kind-mode head kinds.Del = refl
 with_kind-mode head kinds.Upd = refl
 
-with_kind-plain : (head : Head) (k : Kind) → head ≡ no_assumptions head → with_kind head k ≡ no_assumptions (with_kind head k)
+with_kind-plain : (head : Head) (k : Kind) → head ≡ no_assumptions head
+    → with_kind head k ≡ no_assumptions (with_kind head k)
 with_kind-plain head kinds.Ins e = ap (λ (x : Head). record x { ins = true }) e
 with_kind-plain head kinds.Del e = ap (λ (x : Head). record x { del = true }) e
 with_kind-plain head kinds.Upd e = ap (λ (x : Head). record x { upd = true }) e
 
 -- a further kind
-pub declared_steps : (s : Phrases) (ts : List Token) → Reached s wants.NextKind ts → (k : Kind) → has_word s.control.language k ≡ true →
+pub declared_steps : (s : Phrases) (ts : List Token) → Reached s wants.NextKind ts → (k : Kind)
+    → has_word s.control.language k ≡ true →
     comes_next s.control.head k ≡ true → Steps s ts (Known (words.Kind k)) (moves.Declare k)
 declared_steps s ts h k word next =
     let language = s.control.language in
@@ -160,8 +170,8 @@ declared_steps s ts h k word next =
     )
 
 -- the end of the line of the kinds
-pub kinds_end_steps : (s : Phrases) (ts : List Token) → Reached s wants.NextKind ts → declares_some s.control.head ≡ true →
-    Steps s ts LineEnd (moves.Skip wants.Line)
+pub kinds_end_steps : (s : Phrases) (ts : List Token) → Reached s wants.NextKind ts
+    → declares_some s.control.head ≡ true → Steps s ts LineEnd (moves.Skip wants.Line)
 kinds_end_steps s ts h some =
     let language = s.control.language in
     let head = s.control.head in
@@ -169,7 +179,8 @@ kinds_end_steps s ts h some =
     let none = none_of s h.0 in (
       (begun_blocks language head s.control.begun s.control.seen blocks some h.4 h.0.seen_none none, h.1, h.0.counted),
       ap (λ x. x ++ LineEnd ∷ []) h.3
-          ∙ head_alone (kinds_line language head ++ LineEnd ∷ []) language head blocks none (plain_head language head h.2),
+          ∙ head_alone (kinds_line language head ++ LineEnd ∷ []) language head blocks none
+          (plain_head language head h.2),
     )
 
 pub next_kind_steps : (s : Phrases) (ts : List Token) (t : Token) (move : TokenMove) → Reached s wants.NextKind ts →
@@ -179,8 +190,10 @@ next_kind_steps s ts t move h e =
 
 pub line_end_steps : (s : Phrases) (following : AfterLine) (ts : List Token) (t : Token) (move : TokenMove) →
     Reached s (wants.LineEnd following) ts → at_fixed (wants.LineEnd following) t ≡ Some move → Steps s ts t move
-line_end_steps s nexts.Text ts t move h e = by_line_end (Steps s ts) nexts.Text t move e (h.0, ap (λ x. x ++ LineEnd ∷ []) h.1)
-line_end_steps s nexts.Kinds ts t move h e = by_line_end (Steps s ts) nexts.Kinds t move e (h.0, ap (λ x. x ++ LineEnd ∷ []) h.1)
+line_end_steps s nexts.Text ts t move h e =
+    by_line_end (Steps s ts) nexts.Text t move e (h.0, ap (λ x. x ++ LineEnd ∷ []) h.1)
+line_end_steps s nexts.Kinds ts t move h e =
+    by_line_end (Steps s ts) nexts.Kinds t move e (h.0, ap (λ x. x ++ LineEnd ∷ []) h.1)
 line_end_steps s nexts.Line ts t move h e = by_line_end (Steps s ts) nexts.Line t move e h
 line_end_steps s nexts.File ts t move h e =
     by_line_end (Steps s ts) nexts.File t move e (h.0, append_assoc ts (LineEnd ∷ []) (FileEnd ∷ []) ∙ h.1)
@@ -191,7 +204,8 @@ file_end_steps s ts t move h e = by_file_end (Steps s ts) t move e h
 
 -- the head with one assumption more
 sites_plain : (language : Language) (head : Head) →
-    head_tokens language (no_assumptions head) ++ Known words.Assume ∷ Known words.Sites ∷ Known words.Differ ∷ LineEnd ∷ []
+    head_tokens language (no_assumptions head) ++ Known words.Assume ∷ Known words.Sites
+    ∷ Known words.Differ ∷ LineEnd ∷ []
     ≡ head_tokens language (record (no_assumptions head) { sites_differ = true })
 unfolding head_tokens
 sites_plain language head = simp (append_assoc, append-nil)
@@ -201,9 +215,11 @@ sites_line : (language : Language) (head : Head) → head.sites_differ ≡ false
     ≡ head_tokens language (record head { sites_differ = true })
 sites_line language head sites chars =
     let plain : head ≡ no_assumptions head =
-    ap (λ x. record head { sites_differ = x }) sites ∙ ap (λ x. record head { sites_differ = false; chars_differ = x }) chars in
+    ap (λ x. record head { sites_differ = x }) sites
+    ∙ ap (λ x. record head { sites_differ = false; chars_differ = x }) chars in
     ap (λ x. head_tokens language x ++ Known words.Assume ∷ Known words.Sites ∷ Known words.Differ ∷ LineEnd ∷ []) plain
-    ∙ (sites_plain language head ∙ ap (λ x. head_tokens language (record head { sites_differ = true; chars_differ = x })) (sym chars))
+    ∙ (sites_plain language head
+    ∙ ap (λ x. head_tokens language (record head { sites_differ = true; chars_differ = x })) (sym chars))
 
 chars_plain : (language : Language) (head : Head) →
     head_tokens language (record head { chars_differ = false })
@@ -227,8 +243,8 @@ still_declared head sites chars kinds.Del = refl
 still_declared head sites chars kinds.Upd = refl
 
 -- nor does it touch the blocks
-pub assuming : (language : Language) (old : Head) (sites chars : Bool) (begun : Bool) (seen : Pairs) (blocks : List WrittenBlock) →
-    AreBlocks language old begun seen blocks →
+pub assuming : (language : Language) (old : Head) (sites chars : Bool) (begun : Bool) (seen : Pairs)
+    (blocks : List WrittenBlock) → AreBlocks language old begun seen blocks →
     AreBlocks language (record old { sites_differ = sites; chars_differ = chars }) begun seen blocks
 assuming language old sites chars begun seen blocks h =
     let new = record old { sites_differ = sites; chars_differ = chars } in
@@ -243,14 +259,15 @@ assuming language old sites chars begun seen blocks h =
     }
 
 -- an assumption before the first block
-pub assumed_front : (ts : List Token) (language : Language) (old new : Head) (blocks : List WrittenBlock) (t : Token) → blocks ≡ [] →
-    ts ≡ (head_tokens language old ++ flat_map block_written_as blocks) ++ Known words.Assume ∷ [] →
+pub assumed_front : (ts : List Token) (language : Language) (old new : Head) (blocks : List WrittenBlock) (t : Token)
+    → blocks ≡ [] → ts ≡ (head_tokens language old ++ flat_map block_written_as blocks) ++ Known words.Assume ∷ [] →
     head_tokens language old ++ Known words.Assume ∷ t ∷ Known words.Differ ∷ LineEnd ∷ [] ≡ head_tokens language new →
     (ts ++ t ∷ []) ++ Known words.Differ ∷ LineEnd ∷ [] ≡ head_tokens language new ++ flat_map block_written_as blocks
 assumed_front ts language old new blocks t none e line =
     let alone : (head_tokens language old ++ flat_map block_written_as blocks) ++ Known words.Assume ∷ []
     ≡ head_tokens language old ++ Known words.Assume ∷ [] =
-    ap (λ x. x ++ Known words.Assume ∷ []) (sym (head_alone (head_tokens language old) language old blocks none refl)) in
+    ap (λ x. x ++ Known words.Assume ∷ [])
+    (sym (head_alone (head_tokens language old) language old blocks none refl)) in
     ap (λ x. (x ++ t ∷ []) ++ Known words.Differ ∷ LineEnd ∷ []) (e ∙ alone)
     ∙ (regrouped (head_tokens language old) ∙ head_alone _ language new blocks none line)
   where

@@ -1,21 +1,21 @@
 -- Reading makes of tokens what the phrases that they write are made into: with any maker the reader goes
 -- through the images of the states that it goes through where it keeps phrases.
-use Rattle.std.proofs.Common.{◌≡◌, ℕ, zero, suc, Bool, true, false, List, [], ◌∷◌, ◌++◌, map, cond, Option, Some, None, option_map}
-use Rattle.std.proofs.Common.{Result, Ok, Err, refl, sym, ap, ◌∙◌}
+use Rattle.std.proofs.Common.{◌≡◌, ℕ, zero, suc, Bool, true, false, List, [], ◌∷◌, ◌++◌, map, cond, Option, Some, None}
+use Rattle.std.proofs.Common.{option_map, Result, Ok, Err, refl, sym, ap, ◌∙◌}
 use Rattle.std.proofs.lemmas.List.{map-append}
 use Rattle.fn_rules.specs.declared.guard.Tightness.{Tightness}
 use Rattle.fn_rules.specs.declared.guard.Tightness.TheVariants.{Loose, Joined, Tight}
 use Rattle.fn_rules.specs.declared.function.Head.{Head}
-use Rattle.fn_moves.specs.declared.fault.TextFault.{TextFault}
+use Rattle.fn_tokens.specs.declared.fault.TextFault.{TextFault}
 use Rattle.fn_tokens.specs.declared.token.Placed.{Placed}
-use Rattle.fn_moves.specs.declared.control.Want.{Want}
-use Rattle.fn_moves.specs.declared.control.Want.TheVariants as wants
-use Rattle.fn_moves.specs.declared.control.TokenMove.{TokenMove}
-use Rattle.fn_moves.specs.declared.control.TokenMove.TheVariants as moves
-use Rattle.fn_moves.specs.Moves.{move_for}
-use Rattle.fn_moves.specs.Meaning.{Maker}
-use Rattle.fn_text.specs.Reader.{Nesting, State, negate, join, choose, conjunction, disjunction, blocks_of, closed_parentheses, moved, after_move}
-use Rattle.fn_text.specs.Reader.{ended, read_from}
+use Rattle.fn_tokens.specs.declared.control.Want.{Want}
+use Rattle.fn_tokens.specs.declared.control.Want.TheVariants as wants
+use Rattle.fn_tokens.specs.declared.control.TokenMove.{TokenMove}
+use Rattle.fn_tokens.specs.declared.control.TokenMove.TheVariants as moves
+use Rattle.fn_tokens.specs.Moves.{move_for}
+use Rattle.fn_tokens.specs.Meaning.{Maker}
+use Rattle.fn_text.specs.Reader.{Nesting, State, negate, join, choose, conjunction, disjunction, blocks_of}
+use Rattle.fn_text.specs.Reader.{closed_parentheses, moved, after_move, ended, read_from}
 use Rattle.fn_grammar.specs.Grammar.{Phrase, made, WrittenBlock, case_made, block_made}
 use Rattle.fn_text.proofs.WrittenIsRead.Guards.{going}
 use Rattle.fn_text.proofs.ReadIsWritten.States.{to_phrases, Phrases}
@@ -63,7 +63,8 @@ module _ {V : Tightness → Type 0} {K B : Type 0} (m : Maker V K B) where
 
   disjunction_made : (s : Phrases) → disjunction m (state_made s) ≡ made m (disjunction to_phrases s)
   disjunction_made s =
-      ap (λ x. choose m (option_map (made m) s.any) x) (conjunction_made s) ∙ choose_made s.any (conjunction to_phrases s)
+      ap (λ x. choose m (option_map (made m) s.any) x) (conjunction_made s)
+      ∙ choose_made s.any (conjunction to_phrases s)
 
   begun_made : (begun : Bool) (done : List WrittenBlock) (block : WrittenBlock) →
       cond begun (map (block_made m) done ++ block_made m block ∷ []) (map (block_made m) done)
@@ -76,10 +77,12 @@ module _ {V : Tightness → Type 0} {K B : Type 0} (m : Maker V K B) where
       begun_made s.control.begun s.done (record { first = s.control.first; second = s.control.second; cases = s.cases })
 
   closed_made : (s : Phrases) (levels : List (Nesting Phrase)) →
-      closed_parentheses m (state_made s) (map (level_made) levels) ≡ state_made (closed_parentheses to_phrases s levels)
+      closed_parentheses m (state_made s) (map (level_made) levels)
+      ≡ state_made (closed_parentheses to_phrases s levels)
   closed_made s [] = refl
   closed_made s (level ∷ levels) =
-      ap (λ x. record (state_made (closed_parentheses to_phrases s (level ∷ levels))) { last = m.round x }) (disjunction_made s)
+      ap (λ x. record (state_made (closed_parentheses to_phrases s (level ∷ levels))) { last = m.round x })
+      (disjunction_made s)
 
   -- a move on the image of a state is the image of the move
   pub moved_made : (s : Phrases) (move : TokenMove) → moved m (state_made s) move ≡ state_made (moved to_phrases s move)
@@ -124,13 +127,15 @@ module _ {V : Tightness → Type 0} {K B : Type 0} (m : Maker V K B) where
   going_made : (s : Phrases) (at : Placed) (rest : List Placed) →
       ((after : Phrases) → read_from m (state_made after) rest ≡ parts_made (read_from to_phrases after rest)) →
       (move : Option TokenMove) →
-      going m rest (after_move m (state_made s) at move) ≡ parts_made (going to_phrases rest (after_move to_phrases s at move))
+      going m rest (after_move m (state_made s) at move)
+      ≡ parts_made (going to_phrases rest (after_move to_phrases s at move))
   going_made s at rest others None = refl
   going_made s at rest others (Some move) =
       ap (λ x. read_from m x rest) (moved_made s move) ∙ others (moved to_phrases s move)
 
   -- reading from an image gives the image
-  pub read_made : (s : Phrases) (ps : List Placed) → read_from m (state_made s) ps ≡ parts_made (read_from to_phrases s ps)
+  pub read_made : (s : Phrases) (ps : List Placed)
+      → read_from m (state_made s) ps ≡ parts_made (read_from to_phrases s ps)
   read_made s [] = ended_made s s.control.want
   read_made s (at ∷ rest) =
       going_made s at rest (λ after. read_made after rest) (move_for s.control at s.control.want at.token)

@@ -3,17 +3,17 @@ use Rattle.std.proofs.Common.{◌≡◌, Some}
 use Rattle.std.proofs.lemmas.Bool.{and_parts, ltb-true}
 use Rattle.fn_tokens.specs.declared.token.Token.{Token}
 use Rattle.fn_tokens.specs.declared.token.Placed.{Placed}
-use Rattle.fn_moves.specs.declared.control.Want.{Want}
-use Rattle.fn_moves.specs.declared.control.Want.TheVariants as wants
-use Rattle.fn_moves.specs.declared.control.Control.{Control}
-use Rattle.fn_moves.specs.declared.control.TokenMove.{TokenMove}
-use Rattle.fn_moves.specs.GuardMoves.{at_operator}
-use Rattle.fn_moves.specs.Moves.{HasRoom, move_for}
-use Rattle.fn_text.proofs.ReadIsWritten.Moves.{by_otfn, by_text, by_kinds, by_differ, by_line_end, by_block_end, by_result_end}
-use Rattle.fn_text.proofs.ReadIsWritten.Moves.{by_file_end, by_version, by_mode}
-use Rattle.fn_text.proofs.ReadIsWritten.Moves.{by_next_kind, by_line, by_assumed, by_block_first, by_block_second}
-use Rattle.fn_text.proofs.ReadIsWritten.Moves.{by_operand, by_comparison, by_right, by_operator, by_offset, by_number}
-use Rattle.fn_text.proofs.ReadIsWritten.Moves.{by_result, by_result_position, by_result_offset, by_result_number}
+use Rattle.fn_tokens.specs.declared.control.Want.{Want}
+use Rattle.fn_tokens.specs.declared.control.Want.TheVariants as wants
+use Rattle.fn_tokens.specs.declared.control.Control.{Control}
+use Rattle.fn_tokens.specs.declared.control.TokenMove.{TokenMove}
+use Rattle.fn_tokens.specs.GuardMoves.{at_operator}
+use Rattle.fn_tokens.specs.Moves.{HasRoom, move_for}
+use Rattle.fn_text.proofs.ReadIsWritten.Moves.{by_otfn, by_text, by_kinds, by_differ, by_line_end, by_block_end}
+use Rattle.fn_text.proofs.ReadIsWritten.Moves.{by_result_end, by_file_end, by_version, by_mode, by_next_kind, by_line}
+use Rattle.fn_text.proofs.ReadIsWritten.Moves.{by_assumed, by_block_first, by_block_second, by_operand, by_comparison}
+use Rattle.fn_text.proofs.ReadIsWritten.Moves.{by_right, by_operator, by_offset, by_number, by_result}
+use Rattle.fn_text.proofs.ReadIsWritten.Moves.{by_result_position, by_result_offset, by_result_number}
 
 module _ (c : Control) where
   -- the token does not matter
@@ -24,7 +24,8 @@ module _ (c : Control) where
   operator_fits token m e = by_operator Fit c token m e tt tt (λ _. tt) (λ _. tt)
 
   -- the tests of a move hold where a token was given that move
-  pub move_fits : (at : Placed) (want : Want) (token : Token) (m : TokenMove) → move_for c at want token ≡ Some m → HasRoom c m
+  pub move_fits : (at : Placed) (want : Want) (token : Token) (m : TokenMove)
+      → move_for c at want token ≡ Some m → HasRoom c m
   move_fits at wants.Otfn token m e = by_otfn Fit token m e tt
   move_fits at wants.Version token m e = by_version Fit token m e (λ _. tt)
   move_fits at wants.Text token m e = by_text Fit token m e tt
@@ -40,7 +41,8 @@ module _ (c : Control) where
   move_fits at (wants.BlockSecond k) token m e = by_block_second Fit c k token m e (λ _ _ _. tt)
   move_fits at wants.BlockEnd token m e = by_block_end Fit token m e tt
   move_fits at wants.Operand token m e =
-      by_operand Fit c token m e (ltb-true _ _) (ltb-true _ _) (ltb-true _ _) (λ sort side room chars. ltb-true _ _ room)
+      by_operand Fit c token m e (ltb-true _ _) (ltb-true _ _) (ltb-true _ _)
+      (λ sort side room chars. ltb-true _ _ room)
   move_fits at (wants.Comparison sort left) token m e = by_comparison Fit sort left token m e (λ _. tt)
   move_fits at (wants.Right sort left cmp) token m e = by_right Fit sort left cmp token m e tt
   move_fits at (wants.Offset left cmp) token m e = by_offset Fit c left cmp token m e (λ _. tt) (operator_fits token m)

@@ -1,8 +1,8 @@
 -- What is known of a state in which phrases themselves are kept: by which tokens it was reached, and
 -- that what it keeps is within the limits.
 use Rattle.fn_tokens.specs.declared.token.Token.TheVariants as tokens
-use Rattle.std.proofs.Common.{◌≡◌, ℕ, zero, suc, ◌+◌, ◌≤◌, Bool, true, false, if◌then◌else◌, IsTrue, List, [], ◌∷◌, ◌++◌, length}
-use Rattle.std.proofs.Common.{map, count_by, Option, Some, None}
+use Rattle.std.proofs.Common.{◌≡◌, ℕ, zero, suc, ◌+◌, ◌≤◌, Bool, true, false, if◌then◌else◌, IsTrue, List, [], ◌∷◌}
+use Rattle.std.proofs.Common.{◌++◌, length, map, count_by, Option, Some, None}
 use Rattle.std.specs.List.{flat_map, list_all}
 use Rattle.ot_model.specs.declared.op.Kind.{Kind}
 use Rattle.ot_model.specs.declared.op.TheConstants.{KINDS}
@@ -17,21 +17,22 @@ use Rattle.fn_rules.specs.Building.{is_for}
 use Rattle.fn_tokens.specs.declared.token.Token.{Token}
 use Rattle.fn_tokens.specs.declared.token.Token.TheVariants.{Known, Number, Open, Colon, LineEnd, FileEnd}
 use Rattle.fn_tokens.specs.declared.token.Word.TheVariants as words
-use Rattle.fn_moves.specs.declared.control.Written.TheVariants as written
-use Rattle.fn_moves.specs.declared.control.AfterLine.TheVariants as nexts
-use Rattle.fn_moves.specs.declared.control.Want.{Want}
-use Rattle.fn_moves.specs.declared.control.Want.TheVariants as wants
-use Rattle.fn_moves.specs.declared.control.Pairs.{Pairs}
-use Rattle.fn_moves.specs.declared.language.Language.{Language}
-use Rattle.fn_moves.specs.Kinds.{has_seen, declares_some}
-use Rattle.fn_moves.specs.Languages.{number_of, has_words}
-use Rattle.fn_moves.specs.Meaning.{Maker, may_compare, to_formulas}
-use Rattle.fn_moves.specs.Controls.{has_chars}
+use Rattle.fn_tokens.specs.declared.control.Written.TheVariants as written
+use Rattle.fn_tokens.specs.declared.control.AfterLine.TheVariants as nexts
+use Rattle.fn_tokens.specs.declared.control.Want.{Want}
+use Rattle.fn_tokens.specs.declared.control.Want.TheVariants as wants
+use Rattle.fn_tokens.specs.declared.control.Pairs.{Pairs}
+use Rattle.fn_tokens.specs.declared.language.Language.{Language}
+use Rattle.fn_tokens.specs.Kinds.{has_seen, declares_some}
+use Rattle.fn_tokens.specs.Languages.{number_of, has_words}
+use Rattle.fn_tokens.specs.Meaning.{Maker, may_compare, to_formulas}
+use Rattle.fn_tokens.specs.Controls.{has_chars}
 use Rattle.fn_grammar.specs.Print.{kind_tokens, head_tokens, first_lines}
 use Rattle.fn_text.specs.Reader.{Nesting, State, blocks_of}
-use Rattle.fn_grammar.specs.Grammar.{Phrase, Always, Compare, Shifted, Negated, Round, One, Both, Single, Either, written_as, atoms_in}
-use Rattle.fn_grammar.specs.Grammar.{nesting_in, is_allowed_phrase, WrittenCase, WrittenBlock, result_written_as, block_written_as}
-use Rattle.fn_grammar.specs.Grammar.{file_written_as, block_made, is_allowed_result, is_allowed_block, is_allowed_file}
+use Rattle.fn_grammar.specs.Grammar.{Phrase, Always, Compare, Shifted, Negated, Round, One, Both, Single, Either}
+use Rattle.fn_grammar.specs.Grammar.{written_as, atoms_in, nesting_in, is_allowed_phrase, WrittenCase, WrittenBlock}
+use Rattle.fn_grammar.specs.Grammar.{result_written_as, block_written_as, file_written_as, block_made}
+use Rattle.fn_grammar.specs.Grammar.{is_allowed_result, is_allowed_block, is_allowed_file}
 
 -- phrases are kept as they are
 abbrev pub to_phrases : Maker Phrase WrittenCase WrittenBlock
@@ -143,10 +144,12 @@ abbrev pub Rests : Phrases → Type 0
 Rests s = IsQuiet (here s) s.outer
 
 -- the head and blocks, of which each is for a pair of its own
-pub record AreBlocks (language : Language) (head : Head) (begun : Bool) (seen : Pairs) (blocks : List WrittenBlock) : Type 0 where
+pub record AreBlocks (language : Language) (head : Head) (begun : Bool) (seen : Pairs)
+    (blocks : List WrittenBlock) : Type 0 where
   pub some_kind : declares_some head ≡ true
   pub speaks : has_words language head ≡ true
-  pub counts : (k l : Kind) → count_by (is_for k l) (map (block_made to_formulas) blocks) ≡ (if has_seen seen k l then 1 else 0)
+  pub counts : (k l : Kind)
+      → count_by (is_for k l) (map (block_made to_formulas) blocks) ≡ (if has_seen seen k l then 1 else 0)
   pub declared : (k l : Kind) → has_seen seen k l ≡ true → is_declared_pair head k l ≡ true
   pub allowed : list_all is_allowed_block blocks ≡ true
   pub none : begun ≡ false → blocks ≡ []
@@ -159,7 +162,8 @@ abbrev pub lines_of : Phrases → List Token
 lines_of s = head_tokens s.control.language s.control.head ++ flat_map block_written_as (blocks_of to_phrases s)
 
 -- before the kinds are declared
-pub record IsUntold (begun : Bool) (seen : Pairs) (cases : List WrittenCase) (count : ℕ) (done : List WrittenBlock) : Type 0 where
+pub record IsUntold (begun : Bool) (seen : Pairs) (cases : List WrittenCase) (count : ℕ)
+    (done : List WrittenBlock) : Type 0 where
   pub begun_not : begun ≡ false
   pub seen_none : (k l : Kind) → has_seen seen k l ≡ false
   pub done_none : done ≡ []
@@ -170,7 +174,8 @@ NoBlocks s = IsUntold s.control.begun s.control.seen s.cases s.control.cases s.d
 
 -- a head that says its mode alone
 abbrev pub head_for : Mode → Head
-head_for mode = record { mode = mode; ins = false; del = false; upd = false; sites_differ = false; chars_differ = false }
+head_for mode =
+    record { mode = mode; ins = false; del = false; upd = false; sites_differ = false; chars_differ = false }
 
 -- the head without what is assumed
 abbrev pub no_assumptions : Head → Head
@@ -227,9 +232,11 @@ Ended s ts =
 abbrev pub Reached : Phrases → Want → List Token → Type 0
 Reached s wants.Otfn ts = Untold s × (ts ≡ [])
 Reached s wants.Version ts = Untold s × (ts ≡ Known words.Otfn ∷ [])
-Reached s (wants.LineEnd nexts.Text) ts = Untold s × (ts ≡ Known words.Otfn ∷ Number (number_of s.control.language) ∷ [])
+Reached s (wants.LineEnd nexts.Text) ts =
+    Untold s × (ts ≡ Known words.Otfn ∷ Number (number_of s.control.language) ∷ [])
 Reached s wants.Text ts = Untold s × (ts ≡ Known words.Otfn ∷ Number (number_of s.control.language) ∷ LineEnd ∷ [])
-Reached s wants.Mode ts = Untold s × (ts ≡ Known words.Otfn ∷ Number (number_of s.control.language) ∷ LineEnd ∷ Known words.Text ∷ [])
+Reached s wants.Mode ts =
+    Untold s × (ts ≡ Known words.Otfn ∷ Number (number_of s.control.language) ∷ LineEnd ∷ Known words.Text ∷ [])
 Reached s (wants.LineEnd nexts.Kinds) ts =
     Untold s
     × (ts ≡ Known words.Otfn ∷ Number (number_of s.control.language) ∷ LineEnd ∷ Known words.Text
@@ -237,17 +244,20 @@ Reached s (wants.LineEnd nexts.Kinds) ts =
 Reached s wants.Kinds ts = Untold s × (ts ≡ first_lines s.control.language s.control.head.mode)
 Reached s wants.NextKind ts =
     NoBlocks s × Rests s × (s.control.head ≡ no_assumptions s.control.head)
-    × (ts ≡ first_lines s.control.language s.control.head.mode ++ Known words.Kinds ∷ flat_map (kind_tokens s.control.head) KINDS)
+    × (ts ≡ first_lines s.control.language s.control.head.mode ++ Known words.Kinds
+    ∷ flat_map (kind_tokens s.control.head) KINDS)
     × (has_words s.control.language s.control.head ≡ true)
 Reached s (wants.LineEnd nexts.Line) ts = Between s × (ts ++ LineEnd ∷ [] ≡ lines_of s)
 Reached s (wants.LineEnd nexts.File) ts = Ended s (ts ++ LineEnd ∷ FileEnd ∷ [])
 Reached s wants.Line ts = Between s × (ts ≡ lines_of s)
 Reached s wants.Assumed ts =
-    Between s × (s.control.begun ≡ false) × (s.control.head.chars_differ ≡ false) × (ts ≡ lines_of s ++ Known words.Assume ∷ [])
+    Between s × (s.control.begun ≡ false) × (s.control.head.chars_differ ≡ false)
+    × (ts ≡ lines_of s ++ Known words.Assume ∷ [])
 Reached s wants.Differ ts = Between s × (ts ++ Known words.Differ ∷ LineEnd ∷ [] ≡ lines_of s)
 Reached s wants.BlockFirst ts = Between s × (ts ≡ lines_of s ++ Known words.Block ∷ [])
 Reached s (wants.BlockSecond k) ts =
-    Between s × (is_declared s.control.head k ≡ true) × (ts ≡ lines_of s ++ Known words.Block ∷ Known (words.Kind k) ∷ [])
+    Between s × (is_declared s.control.head k ≡ true)
+    × (ts ≡ lines_of s ++ Known words.Block ∷ Known (words.Kind k) ∷ [])
 Reached s wants.BlockEnd ts = Between s × (ts ++ LineEnd ∷ [] ≡ lines_of s)
 Reached s wants.Operand ts = InGuard s (atoms_before s) × (ts ≡ case_front s (guard_front s))
 Reached s (wants.Comparison sort left) ts =
@@ -259,7 +269,8 @@ Reached s (wants.Right sort left cmp) ts =
 Reached s (wants.Offset left cmp) ts =
     BehindOperand s × (s.last ≡ Compare Pos left cmp) × (ts ≡ case_front s (guard_front s ++ written_as s.last))
 Reached s (wants.Number left cmp sign) ts =
-    BehindOperand s × (s.last ≡ Compare Pos left cmp) × (ts ≡ case_front s (guard_front s ++ written_as s.last ++ tokens.Sign sign ∷ []))
+    BehindOperand s × (s.last ≡ Compare Pos left cmp)
+    × (ts ≡ case_front s (guard_front s ++ written_as s.last ++ tokens.Sign sign ∷ []))
 Reached s wants.Operator ts = BehindOperand s × (ts ≡ case_front s (guard_front s ++ written_as s.last))
 Reached s wants.Result ts = BehindColon s × (ts ≡ result_front s [])
 Reached s wants.ResultPosition ts =

@@ -6,10 +6,10 @@ use Rattle.fn_tokens.specs.Words.{word_token}
 use Rattle.fn_tokens.specs.Tokens.{front_of, tokens_in}
 use Rattle.fn_rules.specs.declared.function.Head.{Head}
 use Rattle.fn_rules.specs.Building.{PairCases}
-use Rattle.fn_moves.specs.declared.fault.TextFault.{TextFault}
-use Rattle.fn_moves.specs.declared.fault.FaultKind.TheVariants as faults
-use Rattle.fn_moves.specs.Kinds.{has_seen}
-use Rattle.fn_moves.specs.Meaning.{to_formulas}
+use Rattle.fn_tokens.specs.declared.fault.TextFault.{TextFault}
+use Rattle.fn_tokens.specs.declared.fault.FaultKind.TheVariants as faults
+use Rattle.fn_tokens.specs.Kinds.{has_seen}
+use Rattle.fn_tokens.specs.Meaning.{to_formulas}
 use Rattle.fn_text.specs.Reader.{read_from, first_state}
 use Rattle.fn_text.specs.Refusals.{IsRefusedFor}
 use Rattle.fn_text.proofs.Refusals.Told.{refused_is_read}

@@ -1,6 +1,7 @@
 -- Tokens can go on exactly where the reader takes them. They stand nearest first.
-use Rattle.std.proofs.Common.{◌≡◌, ℕ, ◌==◌, ◌&&◌, Bool, true, false, not, cond, nat_eq, nat_lt, List, [], ◌∷◌, ◌++◌, reverse}
-use Rattle.std.proofs.Common.{Option, Some, None, Result, Ok, Err, inl, inr, refl, sym, ap, subst, ◌∙◌, arith, rules}
+use Rattle.std.proofs.Common.{◌≡◌, ℕ, ◌==◌, ◌&&◌, Bool, true, false, not, cond, nat_eq, nat_lt, List, [], ◌∷◌, ◌++◌}
+use Rattle.std.proofs.Common.{reverse, Option, Some, None, Result, Ok, Err, inl, inr, refl, sym, ap, subst, ◌∙◌, arith}
+use Rattle.std.proofs.Common.{rules}
 use Rattle.std.proofs.lemmas.Bool.{and_parts, and_from}
 use Rattle.std.proofs.lemmas.Bool.Decides.{nat_tests}
 use Rattle.std.proofs.lemmas.List.{reverse-append, reverse-reverse}
@@ -13,29 +14,31 @@ use Rattle.fn_tokens.specs.declared.token.Token.TheVariants.{Known, Open, Close,
 use Rattle.fn_tokens.specs.declared.token.Word.TheVariants as words
 use Rattle.fn_tokens.specs.declared.token.Placed.{Placed}
 use Rattle.fn_tokens.specs.Tokens.{bare}
-use Rattle.fn_moves.specs.declared.fault.TextFault.{TextFault}
-use Rattle.fn_moves.specs.declared.control.AfterLine.TheVariants as nexts
-use Rattle.fn_moves.specs.declared.control.Want.{Want}
-use Rattle.fn_moves.specs.declared.control.Want.TheVariants as wants
-use Rattle.fn_moves.specs.declared.control.Control.{Control}
-use Rattle.fn_moves.specs.declared.control.TokenMove.{TokenMove}
-use Rattle.fn_moves.specs.declared.control.TokenMove.TheVariants as moves
-use Rattle.fn_moves.specs.Meaning.{Formulas, to_formulas}
-use Rattle.fn_moves.specs.Controls.{depth_of, lacks_block, allowed}
-use Rattle.fn_moves.specs.Moves.{move_for}
+use Rattle.fn_tokens.specs.declared.fault.TextFault.{TextFault}
+use Rattle.fn_tokens.specs.declared.control.AfterLine.TheVariants as nexts
+use Rattle.fn_tokens.specs.declared.control.Want.{Want}
+use Rattle.fn_tokens.specs.declared.control.Want.TheVariants as wants
+use Rattle.fn_tokens.specs.declared.control.Control.{Control}
+use Rattle.fn_tokens.specs.declared.control.TokenMove.{TokenMove}
+use Rattle.fn_tokens.specs.declared.control.TokenMove.TheVariants as moves
+use Rattle.fn_tokens.specs.Meaning.{Formulas, to_formulas}
+use Rattle.fn_tokens.specs.Controls.{depth_of, lacks_block, allowed}
+use Rattle.fn_tokens.specs.Moves.{move_for}
 use Rattle.fn_text.specs.Reader.{State, Nesting, moved, closed_parentheses, after_move, turn, read_from, first_state}
 use Rattle.fn_grammar.specs.Grammar.{file_written_as}
 use Rattle.fn_text.specs.Theorems.{state_behind}
-use Rattle.fn_text.specs.Counting.{declares, is_behind_block, first_of_block, atoms_before, is_before_operand, nesting_before}
+use Rattle.fn_text.specs.Counting.{declares, is_behind_block, first_of_block, atoms_before, is_before_operand}
+use Rattle.fn_text.specs.Counting.{nesting_before}
 use Rattle.fn_text.specs.Causes.{block_place}
 use Rattle.fn_text.specs.Continuing.{BeginsFileWithExtra, wants_atom_more, repeats_block}
-use Rattle.fn_text.specs.GoingOn.{BeginsFile, EndsOperand, IsTakenAlso, CanGoOn, is_before_atom_more, repeats_some_block}
-use Rattle.fn_text.specs.GoingOn.{GoingTokensBegin}
+use Rattle.fn_text.specs.GoingOn.{BeginsFile, EndsOperand, IsTakenAlso, CanGoOn, is_before_atom_more}
+use Rattle.fn_text.specs.GoingOn.{repeats_some_block, GoingTokensBegin}
 use Rattle.fn_text.proofs.WrittenIsRead.Guards.{going}
 use Rattle.fn_text.proofs.WrittenIsRead.Files.{file_is_read}
 use Rattle.fn_text.proofs.Refusals.NoneBegins.{going_on, placed, bare-placed, bare-append}
 use Rattle.fn_text.proofs.Refusals.GoesOn.{taken_tokens_go_on}
-use Rattle.fn_text.proofs.Causes.States.{Stands, wants_operand, wants_block_first, first_for, wants_behind_operand, atoms_for}
+use Rattle.fn_text.proofs.Causes.States.{Stands, wants_operand, wants_block_first, first_for, wants_behind_operand}
+use Rattle.fn_text.proofs.Causes.States.{atoms_for}
 use Rattle.fn_text.proofs.Causes.Told.{depth_by}
 use Rattle.fn_text.proofs.Causes.FirstWrong.{StandsBehind, first_stands, stands_behind, atom_more_told, repeats_told}
 
@@ -340,7 +343,8 @@ file_begins : (before : List Placed) (s : Reading) → Leads before s → repeat
     wants_atom_more s.control s.control.want ≡ false → BeginsFile (bare before)
 file_begins before s leads once few =
     subst (λ x. BeginsFileWithExtra 0 x) (bare-reverse before)
-    (subst (λ x. BeginsFileWithExtra (cond x 1 0) (bare (reverse before))) few (taken_tokens_go_on (reverse before) s leads once))
+    (subst (λ x. BeginsFileWithExtra (cond x 1 0) (bare (reverse before))) few
+    (taken_tokens_go_on (reverse before) s leads once))
 
 -- it goes on with a token that is taken, where the state behind that one is no exception
 file_goes : (before : List Placed) (at : Placed) (now : Reading) (move : TokenMove) (want : Want) → Leads before now →
@@ -394,8 +398,8 @@ and_wanted c at wants.Operator move goes = refl
 and_wanted c at (wants.Offset left cmp) move goes = refl
 and_wanted c at _ move goes = absurd (cc)
 
-or_wanted : (c : Control) (at : Placed) (want : Want) (move : TokenMove) → move_for c at want (Known words.Or) ≡ Some move →
-    wants_behind_operand want ≡ true
+or_wanted : (c : Control) (at : Placed) (want : Want) (move : TokenMove)
+    → move_for c at want (Known words.Or) ≡ Some move → wants_behind_operand want ≡ true
 or_wanted c at wants.Operator move goes = refl
 or_wanted c at (wants.Offset left cmp) move goes = refl
 or_wanted c at _ move goes = absurd (cc)
@@ -504,8 +508,8 @@ some_where true j k e = refl
 some_where false j k e = absurd (cc)
 
 -- the first kind of a block was declared
-kind_by : (before : List Placed) (at : Placed) (t : Token) (k : Kind) (now : Reading) (move : TokenMove) → Leads before now →
-    move_for now.control at now.control.want t ≡ Some move → first_of_block (t ∷ bare before) ≡ Some k →
+kind_by : (before : List Placed) (at : Placed) (t : Token) (k : Kind) (now : Reading) (move : TokenMove) → Leads before
+    now → move_for now.control at now.control.want t ≡ Some move → first_of_block (t ∷ bare before) ≡ Some k →
     CanGoOn (bare before) →
     IsTakenAlso (t ∷ bare before)
 kind_by before at (Known (words.Kind j)) k now move leads goes first others =

@@ -1,6 +1,7 @@
 -- Blocks that are read so far go on to a file: the missing blocks are written without cases.
-use Rattle.std.proofs.Common.{◌≡◌, ℕ, ◌+◌, ◌≤◌, Bool, true, false, not, ◌&&◌, nat_le, List, [], ◌∷◌, ◌++◌, length, map, count_by}
-use Rattle.std.proofs.Common.{cond, refl, sym, ap, ◌∙◌, subst, append_assoc, append-nil, length-append, arith, nat_lt, zero, suc}
+use Rattle.std.proofs.Common.{◌≡◌, ℕ, ◌+◌, ◌≤◌, Bool, true, false, not, ◌&&◌, nat_le, List, [], ◌∷◌, ◌++◌, length, map}
+use Rattle.std.proofs.Common.{count_by, cond, refl, sym, ap, ◌∙◌, subst, append_assoc, append-nil, length-append, arith}
+use Rattle.std.proofs.Common.{nat_lt, zero, suc}
 use Rattle.std.specs.List.{flat_map, list_all}
 use Rattle.std.proofs.lemmas.Bool.Decides.{nat_tests}
 use Rattle.std.proofs.lemmas.List.Sums.{sum_by-cons, sum_by-append, sum_by_push}
@@ -8,9 +9,9 @@ use Rattle.std.proofs.lemmas.Grind.{flat_map-append}
 use Rattle.ot_model.specs.declared.op.Kind.{Kind}
 use Rattle.std.proofs.lemmas.Bool.{not-true, and_parts, and_from, leb-true, le-leb}
 use Rattle.ot_model.specs.Kinds.{kind_pairs}
-use Rattle.fn_moves.specs.declared.language.Language.{Language}
-use Rattle.fn_moves.specs.Languages.{has_words}
-use Rattle.fn_moves.specs.Kinds.{declares_some}
+use Rattle.fn_tokens.specs.declared.language.Language.{Language}
+use Rattle.fn_tokens.specs.Languages.{has_words}
+use Rattle.fn_tokens.specs.Kinds.{declares_some}
 use Rattle.fn_rules.specs.declared.function.Head.{Head}
 use Rattle.fn_rules.specs.Functions.{is_declared}
 use Rattle.fn_rules.specs.Functions.{is_declared_pair}
@@ -20,17 +21,18 @@ use Rattle.fn_rules.specs.Building.{is_for, has_own_block}
 use Rattle.fn_tokens.specs.declared.token.Token.{Token}
 use Rattle.fn_tokens.specs.declared.token.Token.TheVariants.{Known, LineEnd, FileEnd}
 use Rattle.fn_tokens.specs.declared.token.Word.TheVariants as words
-use Rattle.fn_moves.specs.declared.control.Pairs.{Pairs}
-use Rattle.fn_moves.specs.Kinds.{has_seen, with_pair}
-use Rattle.fn_moves.specs.Meaning.{to_formulas}
+use Rattle.fn_tokens.specs.declared.control.Pairs.{Pairs}
+use Rattle.fn_tokens.specs.Kinds.{has_seen, with_pair}
+use Rattle.fn_tokens.specs.Meaning.{to_formulas}
 use Rattle.fn_grammar.specs.Print.{head_tokens}
 use Rattle.fn_grammar.specs.Grammar.{WrittenCase, WrittenBlock, block_written_as, block_made, atoms_in}
-use Rattle.fn_text.specs.Continuing.{cases_above, is_allowed_case_with, is_allowed_block_with, is_allowed_file_with, BeginsFileWithExtra}
+use Rattle.fn_text.specs.Continuing.{cases_above, is_allowed_case_with, is_allowed_block_with, is_allowed_file_with}
+use Rattle.fn_text.specs.Continuing.{BeginsFileWithExtra}
 use Rattle.fn_grammar.proofs.KindLists.{each_pair_from, listed_pair_true}
 use Rattle.fn_text.proofs.SeenPairs.{has_seen-with_pair_itself, has_seen-still}
 use Rattle.fn_text.proofs.ReadIsWritten.States.{AreBlocks}
-use Rattle.fn_text.proofs.ReadIsWritten.Blocks.{own_block, counted_more, pairs_more, seen_more, all_more, all_front, all_back}
-use Rattle.fn_text.proofs.ReadIsWritten.Blocks.{with_cases, all_blocks}
+use Rattle.fn_text.proofs.ReadIsWritten.Blocks.{own_block, counted_more, pairs_more, seen_more, all_more, all_front}
+use Rattle.fn_text.proofs.ReadIsWritten.Blocks.{all_back, with_cases, all_blocks}
 
 abbrev one_if : Bool → ℕ
 one_if test = cond test 1 0
@@ -39,7 +41,8 @@ abbrev above : WrittenCase → Bool
 above c = nat_lt 16 (atoms_in c.guard)
 
 -- a head and blocks to which more blocks may come; so many cases may have so many atoms more
-pub record IsOpen (extra : ℕ) (language : Language) (head : Head) (seen : Pairs) (blocks : List WrittenBlock) : Type 0 where
+pub record IsOpen (extra : ℕ) (language : Language) (head : Head) (seen : Pairs)
+    (blocks : List WrittenBlock) : Type 0 where
   pub some_kind : declares_some head ≡ true
   pub speaks : has_words language head ≡ true
   pub counts : (k l : Kind) → count_by (is_for k l) (map (block_made to_formulas) blocks) ≡ cond (has_seen seen k l) 1 0
@@ -51,16 +54,19 @@ above_test : (a : ℕ) → nat_le a 16 ≡ true → one_if (nat_lt 16 a) ≡ 0
 above_test a h = grind (arith, nat_tests)
 
 -- cases within the limits are not above them
-no_case_above : (chars : Bool) (cs : List WrittenCase) → list_all (is_allowed_case_with 16 chars) cs ≡ true → count_by above cs ≡ 0
+no_case_above : (chars : Bool) (cs : List WrittenCase)
+    → list_all (is_allowed_case_with 16 chars) cs ≡ true → count_by above cs ≡ 0
 no_case_above chars [] h = refl
 no_case_above chars (c ∷ cs) h =
-    let few : nat_le (atoms_in c.guard) 16 ≡ true = (and_parts _ _ (and_parts _ _ (and_parts _ _ (and_parts _ _ h).0).0).0).1 in
+    let few : nat_le (atoms_in c.guard) 16 ≡ true =
+    (and_parts _ _ (and_parts _ _ (and_parts _ _ (and_parts _ _ h).0).0).0).1 in
     let here : one_if (nat_lt 16 (atoms_in c.guard)) ≡ 0 = above_test (atoms_in c.guard) few in
     let others = no_case_above chars cs (and_parts (is_allowed_case_with 16 chars c) _ h).1 in
     let sum = sum_by-cons (λ x. cond (above x) 1 0) c cs in
     omega (arith, here, others, sum)
 
-pub no_block_above : (blocks : List WrittenBlock) → list_all (is_allowed_block_with 16) blocks ≡ true → cases_above blocks ≡ 0
+pub no_block_above : (blocks : List WrittenBlock)
+    → list_all (is_allowed_block_with 16) blocks ≡ true → cases_above blocks ≡ 0
 no_block_above [] h = refl
 no_block_above (block ∷ blocks) h =
     let here = no_case_above _ block.cases (and_parts _ _ (and_parts _ _ h).0).1 in
@@ -88,8 +94,8 @@ case_wider extra chars c h =
     let front = (and_parts _ _ h).0 in
     let few : atoms_in c.guard ≤ 16 = leb-true (atoms_in c.guard) 16 (and_parts _ _ (and_parts _ _ front).0).1 in
     and_from _ _ (and_from _ _
-    (and_from _ _ (and_parts _ _ (and_parts _ _ front).0).0 (le-leb (atoms_in c.guard) (16 + extra) (omega (arith, few))))
-    (and_parts _ _ front).1) (and_parts _ _ h).1
+    (and_from _ _ (and_parts _ _ (and_parts _ _ front).0).0
+    (le-leb (atoms_in c.guard) (16 + extra) (omega (arith, few)))) (and_parts _ _ front).1) (and_parts _ _ h).1
 
 cases_wider : (extra : ℕ) (chars : Bool) (cs : List WrittenCase) → list_all (is_allowed_case_with 16 chars) cs ≡ true →
     list_all (is_allowed_case_with (16 + extra) chars) cs ≡ true
@@ -107,9 +113,9 @@ blocks_wider extra (block ∷ blocks) h =
     (blocks_wider extra blocks (and_parts (is_allowed_block_with 16 block) _ h).1)
 
 -- a block without cases more
-pub open_block : (extra : ℕ) (language : Language) (head : Head) (seen : Pairs) (blocks : List WrittenBlock) (k l : Kind) →
-    is_declared head k ≡ true → is_declared head l ≡ true → has_seen seen k l ≡ false → IsOpen extra language head seen blocks →
-    IsOpen extra language head (with_pair seen k l) (blocks ++ with_cases k l [] ∷ [])
+pub open_block : (extra : ℕ) (language : Language) (head : Head) (seen : Pairs) (blocks : List WrittenBlock)
+    (k l : Kind) → is_declared head k ≡ true → is_declared head l ≡ true → has_seen seen k l ≡ false → IsOpen extra
+    language head seen blocks → IsOpen extra language head (with_pair seen k l) (blocks ++ with_cases k l [] ∷ [])
 open_block extra language head seen blocks k l first second fresh h = record {
   some_kind = h.some_kind;
   speaks = h.speaks;
@@ -118,7 +124,8 @@ open_block extra language head seen blocks k l first second fresh h = record {
   declared = λ i j. seen_more head seen k l i j first second (h.declared i j);
   allowed = all_more (is_allowed_block_with (16 + extra)) blocks (with_cases k l []) h.allowed refl;
   few = subst (λ x. count_by above x ≤ extra)
-      (sym (flat_map-append (λ b. b.cases) blocks (with_cases k l [] ∷ []) ∙ append-nil (flat_map (λ b. b.cases) blocks))) h.few;
+      (sym (flat_map-append (λ b. b.cases) blocks (with_cases k l [] ∷ [])
+      ∙ append-nil (flat_map (λ b. b.cases) blocks))) h.few;
 }
 
 -- a case more in the last block
@@ -135,7 +142,8 @@ one_case_more done k l cases c =
 
 -- it may be the one that has so many atoms more
 few_above : (extra a : ℕ) → a ≤ 16 + extra → one_if (nat_lt 16 a) ≤ extra
-few_above zero a h = let none : one_if (nat_lt 16 a) ≡ 0 = above_test a (le-leb a 16 (omega (arith, h))) in omega (arith, none)
+few_above zero a h =
+    let none : one_if (nat_lt 16 a) ≡ 0 = above_test a (le-leb a 16 (omega (arith, h))) in omega (arith, none)
 few_above (suc n) a h = let one = at_most_one (nat_lt 16 a) in omega (arith, one)
   where
     at_most_one : (test : Bool) → one_if test ≤ 1
@@ -143,8 +151,8 @@ few_above (suc n) a h = let one = at_most_one (nat_lt 16 a) in omega (arith, one
     at_most_one false = omega arith
 
 -- open blocks stay open with one case more, whose guard may have so many atoms more
-pub open_case : (extra : ℕ) (language : Language) (head : Head) (begun : Bool) (seen : Pairs) (done : List WrittenBlock) (k l : Kind)
-    (cases : List WrittenCase) (c : WrittenCase) → begun ≡ true → length cases + 1 ≤ 64 →
+pub open_case : (extra : ℕ) (language : Language) (head : Head) (begun : Bool) (seen : Pairs) (done : List WrittenBlock)
+    (k l : Kind) (cases : List WrittenCase) (c : WrittenCase) → begun ≡ true → length cases + 1 ≤ 64 →
     is_allowed_case_with (16 + extra) (compares_chars k l) c ≡ true → atoms_in c.guard ≤ 16 + extra →
     IsOpen 0 language head seen (all_blocks begun done (with_cases k l cases)) →
     IsOpen extra language head seen (all_blocks begun done (with_cases k l (cases ++ c ∷ [])))
@@ -152,7 +160,8 @@ open_case extra language head false seen done k l cases c so room now atoms h = 
 open_case extra language head true seen done k l cases c so room now atoms h =
     let old = with_cases k l cases in
     let new = with_cases k l (cases ++ c ∷ []) in
-    let wide : list_all (is_allowed_block_with (16 + extra)) (done ++ old ∷ []) ≡ true = blocks_wider extra (done ++ old ∷ []) h.allowed in
+    let wide : list_all (is_allowed_block_with (16 + extra)) (done ++ old ∷ []) ≡ true =
+    blocks_wider extra (done ++ old ∷ []) h.allowed in
     let block : is_allowed_block_with (16 + extra) old ≡ true =
     (and_parts _ _ (all_back (is_allowed_block_with (16 + extra)) done (old ∷ []) wide)).0 in
     let count : length (cases ++ c ∷ []) ≡ length cases + 1 = length-append cases (c ∷ []) in
@@ -181,7 +190,8 @@ abbrev is_missing : Head → Pairs → Kind → Kind → Bool
 is_missing head seen k l = is_declared_pair head k l && not (has_seen seen k l)
 
 -- blocks that are open, with further ones, so that a pair is not missing
-record Filled (extra : ℕ) (language : Language) (head : Head) (seen : Pairs) (blocks : List WrittenBlock) (k l : Kind) : Type 0 where
+record Filled (extra : ℕ) (language : Language) (head : Head) (seen : Pairs) (blocks : List WrittenBlock)
+    (k l : Kind) : Type 0 where
   now : Pairs
   more : List WrittenBlock
   opened : IsOpen extra language head now (blocks ++ more)
@@ -193,8 +203,10 @@ not_missing true true h = refl
 not_missing false true h = refl
 not_missing declared false h = absurd (cc)
 
-fill_by : (extra : ℕ) (language : Language) (head : Head) (seen : Pairs) (blocks : List WrittenBlock) (k l : Kind) (test : Bool) →
-    is_missing head seen k l ≡ test → IsOpen extra language head seen blocks → Filled extra language head seen blocks k l
+fill_by : (extra : ℕ) (language : Language) (head : Head) (seen : Pairs) (blocks : List WrittenBlock)
+    (k l : Kind) (test : Bool) →
+    is_missing head seen k l ≡ test → IsOpen extra language head seen blocks
+    → Filled extra language head seen blocks k l
 fill_by extra language head seen blocks k l false e h = record {
   now = seen;
   more = [];
@@ -215,18 +227,23 @@ fill_by extra language head seen blocks k l true e h =
 
 fill : (extra : ℕ) (language : Language) (head : Head) (seen : Pairs) (blocks : List WrittenBlock) (k l : Kind) →
     IsOpen extra language head seen blocks → Filled extra language head seen blocks k l
-fill extra language head seen blocks k l h = fill_by extra language head seen blocks k l (is_missing head seen k l) refl h
+fill extra language head seen blocks k l h =
+    fill_by extra language head seen blocks k l (is_missing head seen k l) refl h
 
-still_full : (declared seen now : Bool) → (declared && not seen) ≡ false → (seen ≡ true → now ≡ true) → (declared && not now) ≡ false
+still_full : (declared seen now : Bool) → (declared && not seen) ≡ false → (seen ≡ true → now ≡ true)
+    → (declared && not now) ≡ false
 still_full false seen now h k = refl
 still_full true true now h k = let so : now ≡ true = k refl in ap (λ x. not x) so
 still_full true false now h k = absurd (cc)
 
 full_file : (extra : ℕ) (language : Language) (head : Head) (seen : Pairs) (blocks : List WrittenBlock) →
-    IsOpen extra language head seen blocks → ((k l : Kind) → is_missing head seen k l ≡ false) → is_allowed_file_with (16 + extra) language head blocks ≡ true
+    IsOpen extra language head seen blocks → ((k l : Kind) → is_missing head seen k l ≡ false)
+    → is_allowed_file_with (16 + extra) language head blocks ≡ true
 full_file extra language head seen blocks h full =
-    and_from _ _ (and_from _ _ (and_from _ _ h.some_kind (each_pair_from (has_own_block head (map (block_made to_formulas) blocks))
-    (λ k l. own_block _ (has_seen seen k l) (is_declared_pair head k l) (h.counts k l) (h.declared k l) (full k l)))) h.allowed) h.speaks
+    and_from _ _ (and_from _ _
+    (and_from _ _ h.some_kind (each_pair_from (has_own_block head (map (block_made to_formulas) blocks))
+    (λ k l. own_block _ (has_seen seen k l) (is_declared_pair head k l) (h.counts k l) (h.declared k l) (full k l))))
+    h.allowed) h.speaks
 
 -- the same for each of a list of pairs
 record AllFilled (extra : ℕ) (language : Language) (head : Head) (seen : Pairs) (blocks : List WrittenBlock)
@@ -237,8 +254,8 @@ record AllFilled (extra : ℕ) (language : Language) (head : Head) (seen : Pairs
   full : list_all (λ p. not (is_missing head now p.0 p.1)) pairs ≡ true
   kept : (i j : Kind) → has_seen seen i j ≡ true → has_seen now i j ≡ true
 
-fill_all : (extra : ℕ) (language : Language) (head : Head) (seen : Pairs) (blocks : List WrittenBlock) (pairs : List (Kind × Kind)) →
-    IsOpen extra language head seen blocks →
+fill_all : (extra : ℕ) (language : Language) (head : Head) (seen : Pairs) (blocks : List WrittenBlock)
+    (pairs : List (Kind × Kind)) → IsOpen extra language head seen blocks →
     AllFilled extra language head seen blocks pairs
 fill_all extra language head seen blocks [] h = record {
   now = seen;
@@ -253,7 +270,8 @@ fill_all extra language head seen blocks (p ∷ pairs) h =
     record {
       now = others.now;
       more = one.more ++ others.more;
-      opened = subst (λ x. IsOpen extra language head others.now x) (append_assoc blocks one.more others.more) others.opened;
+      opened =
+          subst (λ x. IsOpen extra language head others.now x) (append_assoc blocks one.more others.more) others.opened;
       full = and_from _ _ (ap (λ b. not b)
           (still_full (is_declared_pair head p.0 p.1) (has_seen one.now p.0 p.1) (has_seen others.now p.0 p.1) one.full
           (others.kept p.0 p.1))) others.full;
@@ -278,8 +296,10 @@ finish extra language head seen blocks h =
     }
 
 -- tokens that some further ones make into lines of the head and of blocks begin a file
-pub lines_begin : (extra : ℕ) (ts more : List Token) (language : Language) (head : Head) (seen : Pairs) (blocks : List WrittenBlock) →
-    IsOpen extra language head seen blocks → ts ++ more ≡ head_tokens language head ++ flat_map block_written_as blocks → BeginsFileWithExtra extra ts
+pub lines_begin : (extra : ℕ) (ts more : List Token) (language : Language) (head : Head) (seen : Pairs)
+    (blocks : List WrittenBlock) →
+    IsOpen extra language head seen blocks → ts ++ more ≡ head_tokens language head ++ flat_map block_written_as blocks
+    → BeginsFileWithExtra extra ts
 lines_begin extra ts more language head seen blocks h e =
     let rest = finish extra language head seen blocks h in
     record {
@@ -292,7 +312,8 @@ lines_begin extra ts more language head seen blocks h e =
       written = regrouped ts more (flat_map block_written_as rest.more) (Known words.End ∷ LineEnd ∷ FileEnd ∷ [])
           ∙ (ap (λ x. x ++ flat_map block_written_as rest.more ++ Known words.End ∷ LineEnd ∷ FileEnd ∷ []) e
           ∙ (ap (λ x. x ++ Known words.End ∷ LineEnd ∷ FileEnd ∷ [])
-          (append_assoc (head_tokens language head) (flat_map block_written_as blocks) (flat_map block_written_as rest.more))
+          (append_assoc (head_tokens language head) (flat_map block_written_as blocks)
+          (flat_map block_written_as rest.more))
           ∙ ap (λ x. head_tokens language head ++ x ++ Known words.End ∷ LineEnd ∷ FileEnd ∷ [])
           (sym (flat_map-append block_written_as blocks rest.more))));
     }

@@ -6,15 +6,15 @@ use Rattle.fn_rules.specs.Building.{PairCases}
 use Rattle.fn_tokens.specs.declared.token.Token.{Token}
 use Rattle.fn_tokens.specs.declared.token.Token.TheVariants.{FileEnd}
 use Rattle.fn_tokens.specs.declared.token.Placed.{Placed}
-use Rattle.fn_moves.specs.declared.control.Want.{Want}
-use Rattle.fn_moves.specs.declared.control.Want.TheVariants as wants
-use Rattle.fn_moves.specs.declared.control.Control.{Control}
-use Rattle.fn_moves.specs.declared.control.TokenMove.{TokenMove}
-use Rattle.fn_moves.specs.declared.control.TokenMove.TheVariants as moves
-use Rattle.fn_moves.specs.declared.fault.TextFault.{TextFault}
-use Rattle.fn_moves.specs.Moves.{move_for}
-use Rattle.fn_moves.specs.Faults.{fault_of}
-use Rattle.fn_moves.specs.Meaning.{Maker}
+use Rattle.fn_tokens.specs.declared.control.Want.{Want}
+use Rattle.fn_tokens.specs.declared.control.Want.TheVariants as wants
+use Rattle.fn_tokens.specs.declared.control.Control.{Control}
+use Rattle.fn_tokens.specs.declared.control.TokenMove.{TokenMove}
+use Rattle.fn_tokens.specs.declared.control.TokenMove.TheVariants as moves
+use Rattle.fn_tokens.specs.declared.fault.TextFault.{TextFault}
+use Rattle.fn_tokens.specs.Moves.{move_for}
+use Rattle.fn_tokens.specs.Faults.{fault_of}
+use Rattle.fn_tokens.specs.Meaning.{Maker}
 use Rattle.fn_text.specs.Reader.{State, moved, after_move, turn, read_from}
 use Rattle.fn_text.specs.Reading.{built_from}
 use Rattle.fn_text.specs.Theorems.{state_behind}
@@ -52,8 +52,8 @@ file_end_goes c at wants.FileEnd move e = cc
 file_end_goes c at wants.Nothing move e = absurd (cc)
 
 -- the state behind tokens and one more that could go on
-abbrev pub going_on : {V : Tightness → Type 0} {K B : Type 0} → Maker V K B → List Placed → Result (State V K B) TextFault →
-    Result (State V K B) TextFault
+abbrev pub going_on : {V : Tightness → Type 0} {K B : Type 0} → Maker V K B → List Placed
+    → Result (State V K B) TextFault → Result (State V K B) TextFault
 going_on m rest (Ok after) = state_behind m after rest
 going_on m rest (Err fault) = Err fault
 
@@ -72,9 +72,11 @@ pub record Stops {V : Tightness →
 -- the first token is the wrong one
 stops_here : {V : Tightness →
     Type 0} {K B : Type 0} (m : Maker V K B) (s : State V K B) (at : Placed) (rest : List Placed) (fault : TextFault) →
-    move_for s.control at s.control.want at.token ≡ None → read_from m s (at ∷ rest) ≡ Err fault → Stops m s (at ∷ rest) fault
+    move_for s.control at s.control.want at.token ≡ None → read_from m s (at ∷ rest) ≡ Err fault
+    → Stops m s (at ∷ rest) fault
 stops_here m s at rest fault none e =
-    let here : read_from m s (at ∷ rest) ≡ Err (fault_of s.control at) = ap (λ x. going m rest (after_move m s at x)) none in
+    let here : read_from m s (at ∷ rest) ≡ Err (fault_of s.control at) =
+    ap (λ x. going m rest (after_move m s at x)) none in
     record {
       before = [];
       wrong = at;
@@ -89,8 +91,8 @@ stops_here m s at rest fault none e =
 -- the wrong token comes after one that is taken
 stops_later : {V : Tightness →
     Type 0} {K B : Type 0} (m : Maker V K B) (s : State V K B) (at : Placed) (rest : List Placed) (fault : TextFault)
-    (move : TokenMove) → move_for s.control at s.control.want at.token ≡ Some move → Stops m (moved m s move) rest fault →
-    Stops m s (at ∷ rest) fault
+    (move : TokenMove) → move_for s.control at s.control.want at.token ≡ Some move → Stops m (moved m s move) rest fault
+    → Stops m s (at ∷ rest) fault
 stops_later m s at rest fault move some later = record {
   before = at ∷ later.before;
   wrong = later.wrong;
@@ -117,9 +119,9 @@ stops_by m s at rest fault (Some one) goes others e =
     stops_later m s at rest fault one goes (others one refl)
 
 still_refused : {V : Tightness →
-    Type 0} {K B : Type 0} (m : Maker V K B) (s : State V K B) (at : Placed) (rest : List Placed) (fault : TextFault) (one : TokenMove) →
-    move_for s.control at s.control.want at.token ≡ Some one → read_from m s (at ∷ rest) ≡ Err fault →
-    read_from m (moved m s one) rest ≡ Err fault
+    Type 0} {K B : Type 0} (m : Maker V K B) (s : State V K B) (at : Placed) (rest : List Placed) (fault : TextFault)
+    (one : TokenMove) → move_for s.control at s.control.want at.token ≡ Some one → read_from m s (at ∷ rest) ≡ Err fault
+    → read_from m (moved m s one) rest ≡ Err fault
 still_refused m s at rest fault one goes e = sym (ap (λ x. going m rest (after_move m s at x)) goes) ∙ e
 
 ends_well : {V : Tightness → Type 0} {K B : Type 0} (m : Maker V K B) (s : State V K B) (one : TokenMove) →
@@ -128,24 +130,25 @@ ends_well m s one e = ap (λ x. read_from m (moved m s x) []) e
 
 -- a list of tokens that ends with the file's end, and is refused, has a first wrong token
 pub stops : {V : Tightness →
-    Type 0} {K B : Type 0} (m : Maker V K B) (s : State V K B) (front : List Placed) (last : Placed) (fault : TextFault) →
-    last.token ≡ FileEnd → read_from m s (front ++ last ∷ []) ≡ Err fault → Stops m s (front ++ last ∷ []) fault
+    Type 0} {K B : Type 0} (m : Maker V K B) (s : State V K B) (front : List Placed) (last : Placed) (fault : TextFault)
+    → last.token ≡ FileEnd → read_from m s (front ++ last ∷ []) ≡ Err fault → Stops m s (front ++ last ∷ []) fault
 stops m s [] last fault end e =
     stops_by m s last [] fault _ refl
     (λ one goes. let last_move =
-    file_end_goes s.control last s.control.want one (ap (λ t. move_for s.control last s.control.want t) (sym end) ∙ goes) in
+    file_end_goes s.control last s.control.want one
+    (ap (λ t. move_for s.control last s.control.want t) (sym end) ∙ goes) in
     absurd (not_both _ _ _ (ends_well m s one last_move) (still_refused m s last [] fault one goes e)))
     e
 stops m s (at ∷ front) last fault end e =
     stops_by m s at (front ++ last ∷ []) fault _ refl
-    (λ one goes. stops m (moved m s one) front last fault end (still_refused m s at (front ++ last ∷ []) fault one goes e))
-    e
+    (λ one goes. stops m (moved m s one) front last fault end
+    (still_refused m s at (front ++ last ∷ []) fault one goes e)) e
 
 behind_by : {V : Tightness →
-    Type 0} {K B : Type 0} (m : Maker V K B) (s : State V K B) (at : Placed) (front rest : List Placed) (state : State V K B)
-    (next : Result (State V K B) TextFault) → turn m s at ≡ next → going_on m front next ≡ Ok state →
-    ((after : State V K B) → state_behind m after front ≡ Ok state → read_from m after (front ++ rest) ≡ read_from m state rest) →
-    read_from m s (at ∷ (front ++ rest)) ≡ read_from m state rest
+    Type 0} {K B : Type 0} (m : Maker V K B) (s : State V K B) (at : Placed) (front rest : List Placed) (state : State V
+    K B) (next : Result (State V K B) TextFault) → turn m s at ≡ next → going_on m front next ≡ Ok state →
+    ((after : State V K B) → state_behind m after front ≡ Ok state → read_from m after (front ++ rest)
+    ≡ read_from m state rest) → read_from m s (at ∷ (front ++ rest)) ≡ read_from m state rest
 behind_by m s at front rest state (Ok after) told e others =
     ap (λ x. going m (front ++ rest) x) told ∙ others after e
 behind_by m s at front rest state (Err fault) told e others = absurd (cc)
@@ -171,6 +174,7 @@ pub bare-append : (ps qs : List Placed) → bare (ps ++ qs) ≡ bare ps ++ bare 
 bare-append [] qs = refl
 bare-append (p ∷ ps) qs = ap (λ x. p.token ∷ x) (bare-append ps qs)
 
-pub only_by_reading : {read : Result (Head × List PairCases) TextFault} (fault : TextFault) → built_from read ≡ Err fault → read ≡ Err fault
+pub only_by_reading : {read : Result (Head × List PairCases) TextFault} (fault : TextFault)
+    → built_from read ≡ Err fault → read ≡ Err fault
 only_by_reading {read = Ok parts} fault e = absurd (cc)
 only_by_reading {read = Err other} fault e = cc

@@ -7,12 +7,12 @@ use Rattle.fn_tokens.specs.Tokens.{bare, tokens_in, EndsFile}
 use Rattle.fn_tokens.proofs.Ends.{file_ends}
 use Rattle.fn_rules.specs.Functions.{Function, GuardedCase}
 use Rattle.fn_rules.specs.Building.{PairCases}
-use Rattle.fn_moves.specs.declared.fault.TextFault.{TextFault}
+use Rattle.fn_tokens.specs.declared.fault.TextFault.{TextFault}
 use Rattle.fn_text.specs.declared.stop.TextError.{TextError}
 use Rattle.fn_text.specs.declared.stop.TextError.TheVariants as errors
-use Rattle.fn_moves.specs.declared.control.TokenMove.{TokenMove}
-use Rattle.fn_moves.specs.Moves.{move_for}
-use Rattle.fn_moves.specs.Meaning.{Formulas, to_formulas}
+use Rattle.fn_tokens.specs.declared.control.TokenMove.{TokenMove}
+use Rattle.fn_tokens.specs.Moves.{move_for}
+use Rattle.fn_tokens.specs.Meaning.{Formulas, to_formulas}
 use Rattle.fn_text.specs.Reader.{State, after_move, read_from, first_state}
 use Rattle.fn_text.specs.Theorems.{state_behind}
 use Rattle.fn_text.specs.Reading.{function_in, built_from}

@@ -1,7 +1,7 @@
 -- What is written by the grammar is read: the lines of a block.
 use Rattle.std.proofs.lemmas.Bool.{and_parts, and_from, leb-true}
-use Rattle.std.proofs.Common.{◌≡◌, ℕ, ◌+◌, ◌<◌, ◌≤◌, Bool, true, false, not, List, [], ◌∷◌, ◌++◌, length, map, Some, refl, sym, ap, ◌∙◌}
-use Rattle.std.proofs.Common.{cond, append_assoc, append-nil, arith}
+use Rattle.std.proofs.Common.{◌≡◌, ℕ, ◌+◌, ◌<◌, ◌≤◌, Bool, true, false, not, List, [], ◌∷◌, ◌++◌, length, map, Some}
+use Rattle.std.proofs.Common.{refl, sym, ap, ◌∙◌, cond, append_assoc, append-nil, arith}
 use Rattle.std.specs.List.{flat_map, list_all}
 use Rattle.fn_rules.specs.declared.guard.Tightness.{Tightness}
 use Rattle.fn_rules.specs.Functions.{is_declared}
@@ -9,15 +9,15 @@ use Rattle.fn_tokens.specs.declared.token.Token.{Token}
 use Rattle.fn_tokens.specs.declared.token.Token.TheVariants.{Known, LineEnd}
 use Rattle.fn_tokens.specs.declared.token.Word.TheVariants as words
 use Rattle.fn_tokens.specs.declared.token.Placed.{Placed}
-use Rattle.fn_moves.specs.declared.control.Want.TheVariants as wants
-use Rattle.fn_moves.specs.declared.control.TokenMove.TheVariants as moves
-use Rattle.fn_moves.specs.Kinds.{has_seen, with_pair}
-use Rattle.fn_moves.specs.Meaning.{Maker}
-use Rattle.fn_moves.specs.Controls.{has_chars}
-use Rattle.fn_moves.specs.Moves.{move_for}
+use Rattle.fn_tokens.specs.declared.control.Want.TheVariants as wants
+use Rattle.fn_tokens.specs.declared.control.TokenMove.TheVariants as moves
+use Rattle.fn_tokens.specs.Kinds.{has_seen, with_pair}
+use Rattle.fn_tokens.specs.Meaning.{Maker}
+use Rattle.fn_tokens.specs.Controls.{has_chars}
+use Rattle.fn_tokens.specs.Moves.{move_for}
 use Rattle.fn_text.specs.Reader.{State, moved, blocks_of, after_move}
-use Rattle.fn_grammar.specs.Grammar.{WrittenCase, WrittenBlock, case_written_as, block_written_as, case_made, block_made, is_allowed_case}
-use Rattle.fn_grammar.specs.Grammar.{is_allowed_block}
+use Rattle.fn_grammar.specs.Grammar.{WrittenCase, WrittenBlock, case_written_as, block_written_as, case_made}
+use Rattle.fn_grammar.specs.Grammar.{block_made, is_allowed_case, is_allowed_block}
 use Rattle.fn_tokens.specs.Tokens.{bare}
 use Rattle.fn_text.proofs.WrittenIsRead.Guards.{Leads, leads_by, leads_on, behind_keeps, allowed_true, going, forget}
 use Rattle.fn_text.proofs.WrittenIsRead.Cases.{AtLine, behind_case, leads_case, case_is_made, case_is_at_line}
@@ -54,16 +54,18 @@ module _ {V : Tightness → Type 0} {K B : Type 0} (m : Maker V K B) where
   cases_are_at_line s [] line = line
   cases_are_at_line s (c ∷ cs) line = cases_are_at_line (behind_case m s c) cs (case_is_at_line m s c line)
 
-  cases_are_made : (s : State V K B) (cs : List WrittenCase) → AtLine s → (behind_cases s cs).cases ≡ s.cases ++ map (case_made m) cs
+  cases_are_made : (s : State V K B) (cs : List WrittenCase) → AtLine s
+      → (behind_cases s cs).cases ≡ s.cases ++ map (case_made m) cs
   cases_are_made s [] line = sym (append-nil s.cases)
   cases_are_made s (c ∷ cs) line =
       cases_are_made (behind_case m s c) cs (case_is_at_line m s c line)
-      ∙ (ap (λ x. x ++ map (case_made m) cs) (case_is_made m s c line) ∙ append_assoc s.cases (case_made m c ∷ []) (map (case_made m) cs))
+      ∙ (ap (λ x. x ++ map (case_made m) cs) (case_is_made m s c line)
+      ∙ append_assoc s.cases (case_made m c ∷ []) (map (case_made m) cs))
 
   -- the lines of cases
   leads_cases : (s : State V K B) (cs : List WrittenCase) (ps : List Placed) (more : List Token) → AtLine s →
-      s.control.begun ≡ true → s.control.cases + length cs ≤ 64 → list_all (is_allowed_case (has_chars s.control)) cs ≡ true →
-      bare ps ≡ flat_map (case_written_as s.control.first) cs ++ more → Leads m s ps (behind_cases s cs) more
+      s.control.begun ≡ true → s.control.cases + length cs ≤ 64 → list_all (is_allowed_case (has_chars s.control)) cs
+      ≡ true → bare ps ≡ flat_map (case_written_as s.control.first) cs ++ more → Leads m s ps (behind_cases s cs) more
   leads_cases s [] ps more line begun room ok e = record { rest = ps; told = e; reads = refl }
   leads_cases s (c ∷ cs) ps more line begun room ok e =
       let s1 = behind_case m s c in
@@ -99,8 +101,10 @@ module _ {V : Tightness → Type 0} {K B : Type 0} (m : Maker V K B) where
       moved m (moved m (moved m (moved m s (moves.BlockWord row column)) (moves.Skip (wants.BlockSecond block.first)))
       (moves.BeginBlock block.first block.second)) (moves.Skip wants.Line)
 
-  entered_line : (s : State V K B) (row column : ℕ) (block : WrittenBlock) → AtLine s → AtLine (entered s row column block)
-  entered_line s row column block line = record { want = refl; any = line.any; all = line.all; nots = line.nots; outside = line.outside }
+  entered_line : (s : State V K B) (row column : ℕ) (block : WrittenBlock) → AtLine s
+      → AtLine (entered s row column block)
+  entered_line s row column block line =
+      record { want = refl; any = line.any; all = line.all; nots = line.nots; outside = line.outside }
 
   -- the lines of a block are read, and lead to the block that they write
   block_read : (s : State V K B) (row column : ℕ) (block : WrittenBlock) → AtLine s →
@@ -120,7 +124,8 @@ module _ {V : Tightness → Type 0} {K B : Type 0} (m : Maker V K B) where
         begun = begun;
         head = ap (λ x. x.control.head) kept;
         seen = ap (λ x. x.control.seen) kept;
-        blocks = ap (λ b. cond b (after.done ++ m.blocked after.control.first after.control.second after.cases ∷ []) after.done) begun
+        blocks = ap (λ b.
+            cond b (after.done ++ m.blocked after.control.first after.control.second after.cases ∷ []) after.done) begun
             ∙ (ap (λ d. d ++ m.blocked after.control.first after.control.second after.cases ∷ []) done
             ∙ (ap (λ k. blocks_of m s ++ m.blocked k after.control.second after.cases ∷ []) first
             ∙ (ap (λ l. blocks_of m s ++ m.blocked block.first l after.cases ∷ []) second
@@ -149,7 +154,8 @@ module _ {V : Tightness → Type 0} {K B : Type 0} (m : Maker V K B) where
       let few : length block.cases ≤ 64 = leb-true _ _ (and_parts _ _ ok).0 in
       let room : 0 + length block.cases ≤ 64 = omega (arith, few) in
       let goes = leads_on m s1 rest s2 after (Known (words.Kind l) ∷ LineEnd ∷ (lines ++ more)) more
-      (leads_by m s1 rest (Known (words.Kind k)) _ (moves.Skip (wants.BlockSecond k)) told (λ p. allowed_true _ _ first))
+      (leads_by m s1 rest (Known (words.Kind k)) _ (moves.Skip (wants.BlockSecond k)) told
+      (λ p. allowed_true _ _ first))
       (λ rest1 e1. leads_on m s2 rest1 s3 after (LineEnd ∷ (lines ++ more)) more
       (leads_by m s2 rest1 (Known (words.Kind l)) _ (moves.BeginBlock k l) e1
       (λ p. allowed_true _ _ (and_from _ _ second (ap (λ b. not b) fresh))))
@@ -160,5 +166,9 @@ module _ {V : Tightness → Type 0} {K B : Type 0} (m : Maker V K B) where
       record {
         after = after;
         read = block_read s at.line at.column block line;
-        leads = record { rest = goes.rest; told = goes.told; reads = ap (λ x. going m rest (after_move m s at x)) word ∙ goes.reads };
+        leads = record {
+          rest = goes.rest;
+          told = goes.told;
+          reads = ap (λ x. going m rest (after_move m s at x)) word ∙ goes.reads;
+        };
       }

@@ -1,7 +1,7 @@
 -- What is written by the grammar is read: whole files.
 use Rattle.std.proofs.lemmas.Bool.{and_parts}
-use Rattle.std.proofs.Common.{◌≡◌, ℕ, ◌+◌, Bool, true, false, not, List, [], ◌∷◌, ◌++◌, map, Result, Ok, refl, sym, ap, ◌∙◌, cond}
-use Rattle.std.proofs.Common.{append_assoc, arith}
+use Rattle.std.proofs.Common.{◌≡◌, ℕ, ◌+◌, Bool, true, false, not, List, [], ◌∷◌, ◌++◌, map, Result, Ok, refl, sym, ap}
+use Rattle.std.proofs.Common.{◌∙◌, cond, append_assoc, arith}
 use Rattle.std.specs.List.{flat_map}
 use Rattle.fn_rules.specs.declared.guard.Tightness.{Tightness}
 use Rattle.fn_rules.specs.declared.function.Head.{Head}
@@ -11,17 +11,18 @@ use Rattle.fn_rules.specs.Building.{has_own_blocks}
 use Rattle.fn_tokens.specs.declared.token.Token.TheVariants.{Known, LineEnd, FileEnd}
 use Rattle.fn_tokens.specs.declared.token.Word.TheVariants as words
 use Rattle.fn_tokens.specs.declared.token.Placed.{Placed}
-use Rattle.fn_moves.specs.declared.control.Want.TheVariants as wants
-use Rattle.fn_moves.specs.declared.control.TokenMove.TheVariants as moves
-use Rattle.fn_moves.specs.declared.fault.TextFault.{TextFault}
-use Rattle.fn_moves.specs.declared.language.Language.{Language}
-use Rattle.fn_moves.specs.Kinds.{declares_some}
-use Rattle.fn_moves.specs.Meaning.{Maker, to_formulas}
+use Rattle.fn_tokens.specs.declared.control.Want.TheVariants as wants
+use Rattle.fn_tokens.specs.declared.control.TokenMove.TheVariants as moves
+use Rattle.fn_tokens.specs.declared.fault.TextFault.{TextFault}
+use Rattle.fn_tokens.specs.declared.language.Language.{Language}
+use Rattle.fn_tokens.specs.Kinds.{declares_some}
+use Rattle.fn_tokens.specs.Meaning.{Maker, to_formulas}
 use Rattle.fn_grammar.specs.Print.{head_tokens}
 use Rattle.fn_tokens.specs.Tokens.{tokens_in}
 use Rattle.fn_text.specs.Reader.{State, moved, blocks_of, read_from, first_state, no_pairs}
 use Rattle.fn_text.specs.Reading.{built_from, function_in}
-use Rattle.fn_grammar.specs.Grammar.{WrittenBlock, block_written_as, block_made, file_written_as, is_allowed_file, IsTextOf}
+use Rattle.fn_grammar.specs.Grammar.{WrittenBlock, block_written_as, block_made, file_written_as, is_allowed_file}
+use Rattle.fn_grammar.specs.Grammar.{IsTextOf}
 use Rattle.fn_tokens.specs.Tokens.{bare}
 use Rattle.fn_text.proofs.SeenPairs.{has_seen-none}
 use Rattle.fn_text.proofs.WrittenIsRead.Guards.{leads_by, leads_on, at_wanted, allowed_true}
@@ -34,8 +35,8 @@ none_yet : (n : ℕ) (seen : Bool) (all : ℕ) → seen ≡ false → n ≡ all 
 none_yet n true all none e = absurd (cc)
 none_yet n false all none e = omega (arith, e)
 
-balanced_first : (head : Head) (blocks : List WrittenBlock) → has_own_blocks head (map (block_made to_formulas) blocks) ≡ true →
-    Balanced head no_pairs blocks
+balanced_first : (head : Head) (blocks : List WrittenBlock)
+    → has_own_blocks head (map (block_made to_formulas) blocks) ≡ true → Balanced head no_pairs blocks
 balanced_first head blocks own =
     record {
       at = λ k l. none_yet (written_for k l blocks) _ (cond (is_declared_pair head k l) 1 0) (has_seen-none k l)
@@ -95,7 +96,8 @@ module _ {V : Tightness → Type 0} {K B : Type 0} (m : Maker V K B) where
 pub text_is_read : (bytes : List ℕ) (f : Function) → IsTextOf bytes f → function_in bytes ≡ Ok f
 unfolding function_in
 text_is_read bytes f text =
-    ap (λ x. built_from x) (file_is_read to_formulas text.language text.head text.blocks (tokens_in bytes) text.allowed text.written)
+    ap (λ x. built_from x)
+    (file_is_read to_formulas text.language text.head text.blocks (tokens_in bytes) text.allowed text.written)
     ∙ ap (λ g. Ok g) (sym text.means)
 
 -- so no other function has the text

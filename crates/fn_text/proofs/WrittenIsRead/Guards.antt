@@ -1,8 +1,8 @@
 -- What is written by the grammar is read: the guards.
 use Rattle.std.proofs.lemmas.Bool.{and_parts, and_from, lt-ltb}
 use Rattle.fn_tokens.specs.declared.token.Token.TheVariants as tokens
-use Rattle.std.proofs.Common.{◌≡◌, ℕ, zero, suc, ◌+◌, ◌<◌, ◌≤◌, Bool, true, false, List, [], ◌∷◌, ◌++◌, Some, None, Result}
-use Rattle.std.proofs.Common.{Ok, Err, refl, sym, ap, ◌∙◌, append_assoc, add-one, arith}
+use Rattle.std.proofs.Common.{◌≡◌, ℕ, zero, suc, ◌+◌, ◌<◌, ◌≤◌, Bool, true, false, List, [], ◌∷◌, ◌++◌, Some, None}
+use Rattle.std.proofs.Common.{Result, Ok, Err, refl, sym, ap, ◌∙◌, append_assoc, add-one, arith}
 use Rattle.fn_rules.specs.declared.guard.Sort.{Sort}
 use Rattle.fn_rules.specs.declared.guard.Sort.TheVariants.{Pos, Site, Char}
 use Rattle.fn_rules.specs.declared.guard.Side.{Side}
@@ -12,26 +12,26 @@ use Rattle.fn_rules.specs.declared.guard.Tightness.{Tightness}
 use Rattle.fn_rules.specs.declared.guard.Tightness.TheVariants.{Loose, Joined, Tight}
 use Rattle.fn_rules.specs.declared.function.Head.{Head}
 use Rattle.fn_rules.specs.Formulas.{other_side}
-use Rattle.fn_moves.specs.declared.fault.TextFault.{TextFault}
+use Rattle.fn_tokens.specs.declared.fault.TextFault.{TextFault}
 use Rattle.fn_tokens.specs.declared.token.Token.{Token}
 use Rattle.fn_tokens.specs.declared.token.Token.TheVariants.{Known, Number, Open, Close}
 use Rattle.fn_tokens.specs.declared.token.Word.TheVariants as words
 use Rattle.fn_tokens.specs.declared.token.Placed.{Placed}
 use Rattle.fn_tokens.specs.Tokens.{bare}
-use Rattle.fn_moves.specs.declared.control.Want.{Want}
-use Rattle.fn_moves.specs.declared.control.Want.TheVariants as wants
-use Rattle.fn_moves.specs.declared.control.Control.{Control}
-use Rattle.fn_moves.specs.declared.control.TokenMove.{TokenMove}
-use Rattle.fn_moves.specs.declared.control.TokenMove.TheVariants as moves
-use Rattle.fn_moves.specs.Moves.{move_for}
-use Rattle.fn_moves.specs.Meaning.{Maker, may_compare}
-use Rattle.fn_moves.specs.Controls.{allowed, has_chars, depth_of}
-use Rattle.fn_moves.specs.FixedMoves.{at_fixed}
-use Rattle.fn_moves.specs.GuardMoves.{at_operator, at_offset}
-use Rattle.fn_text.specs.Reader.{Nesting, State, negate, join, choose, conjunction, disjunction, moved, closed_parentheses, read_from, after_move}
-use Rattle.fn_text.specs.Reader.{want_behind}
-use Rattle.fn_grammar.specs.Grammar.{Phrase, Always, Compare, Shifted, Negated, Round, One, Both, Single, Either, written_as, made}
-use Rattle.fn_grammar.specs.Grammar.{atoms_in, nesting_in, is_allowed_phrase}
+use Rattle.fn_tokens.specs.declared.control.Want.{Want}
+use Rattle.fn_tokens.specs.declared.control.Want.TheVariants as wants
+use Rattle.fn_tokens.specs.declared.control.Control.{Control}
+use Rattle.fn_tokens.specs.declared.control.TokenMove.{TokenMove}
+use Rattle.fn_tokens.specs.declared.control.TokenMove.TheVariants as moves
+use Rattle.fn_tokens.specs.Moves.{move_for}
+use Rattle.fn_tokens.specs.Meaning.{Maker, may_compare}
+use Rattle.fn_tokens.specs.Controls.{allowed, has_chars, depth_of}
+use Rattle.fn_tokens.specs.FixedMoves.{at_fixed}
+use Rattle.fn_tokens.specs.GuardMoves.{at_operator, at_offset}
+use Rattle.fn_text.specs.Reader.{Nesting, State, negate, join, choose, conjunction, disjunction, moved}
+use Rattle.fn_text.specs.Reader.{closed_parentheses, read_from, after_move, want_behind}
+use Rattle.fn_grammar.specs.Grammar.{Phrase, Always, Compare, Shifted, Negated, Round, One, Both, Single, Either}
+use Rattle.fn_grammar.specs.Grammar.{written_as, made, atoms_in, nesting_in, is_allowed_phrase}
 
 -- the same in other parentheses
 abbrev pub around : {V : Tightness → Type 0} {K B : Type 0} → State V K B → ℕ → List (Nesting V) → State V K B
@@ -62,14 +62,15 @@ offset_goes c left cmp (tokens.Sign sign) move h = absurd (cc)
 offset_goes c left cmp t move h = h
 
 -- behind a phrase an operator goes on, though an offset might stand there too
-pub operator_goes : (c : Control) (at : Placed) (t : Token) (move : TokenMove) → IsBehind c.want → at_operator c t ≡ Some move →
-    move_for c at c.want t ≡ Some move
+pub operator_goes : (c : Control) (at : Placed) (t : Token) (move : TokenMove) → IsBehind c.want
+    → at_operator c t ≡ Some move → move_for c at c.want t ≡ Some move
 operator_goes c at t move (plainly e) h = at_wanted c at wants.Operator t move e h
 operator_goes c at t move (shiftable left cmp e) h =
     at_wanted c at (wants.Offset left cmp) t move e (offset_goes c left cmp t move h)
 
 right_goes : (sort : Sort) (left : Side) (cmp : Cmp) →
-    at_fixed (wants.Right sort left cmp) (Known (words.Thing sort (other_side left))) ≡ Some (moves.Compare sort left cmp)
+    at_fixed (wants.Right sort left cmp) (Known (words.Thing sort (other_side left)))
+    ≡ Some (moves.Compare sort left cmp)
 right_goes Pos First cmp = refl
 right_goes Pos Second cmp = refl
 right_goes Site First cmp = refl
@@ -77,7 +78,8 @@ right_goes Site Second cmp = refl
 right_goes Char First cmp = refl
 right_goes Char Second cmp = refl
 
-still_allowed : {t : Tightness} (before now : Bool) (p : Phrase t) → now ≡ before → is_allowed_phrase before p ≡ true → is_allowed_phrase now p ≡ true
+still_allowed : {t : Tightness} (before now : Bool) (p : Phrase t) → now ≡ before → is_allowed_phrase before p ≡ true
+    → is_allowed_phrase now p ≡ true
 still_allowed before now p e h = ap (λ x. is_allowed_phrase x p) e ∙ h
 
 module _ {V : Tightness → Type 0} {K B : Type 0} (m : Maker V K B) where
@@ -93,18 +95,20 @@ module _ {V : Tightness → Type 0} {K B : Type 0} (m : Maker V K B) where
   going rest (Err fault) = Err fault
 
   -- one token that can go on
-  pub leads_by : (s : State V K B) (ps : List Placed) (t : Token) (more : List Token) (move : TokenMove) → bare ps ≡ t ∷ more →
-      ((at : Placed) → move_for s.control at s.control.want t ≡ Some move) → Leads s ps (moved m s move) more
+  pub leads_by : (s : State V K B) (ps : List Placed) (t : Token) (more : List Token) (move : TokenMove) → bare ps ≡ t
+      ∷ more → ((at : Placed) → move_for s.control at s.control.want t ≡ Some move) → Leads s ps (moved m s move) more
   leads_by s [] t more move e h = absurd (cc)
   leads_by s (at ∷ rest) t more move e h =
       let same : at.token ≡ t = cc in
       let told : bare rest ≡ more = cc in
-      let goes : move_for s.control at s.control.want at.token ≡ Some move = ap (λ x. move_for s.control at s.control.want x) same ∙ h at in
+      let goes : move_for s.control at s.control.want at.token ≡ Some move =
+      ap (λ x. move_for s.control at s.control.want x) same ∙ h at in
       record { rest = rest; told = told; reads = ap (λ x. going rest (after_move m s at x)) goes }
 
   -- first some tokens, and then others
   pub leads_on : (s : State V K B) (ps : List Placed) (middle after : State V K B) (some more : List Token) →
-      Leads s ps middle some → ((rest : List Placed) → bare rest ≡ some → Leads middle rest after more) → Leads s ps after more
+      Leads s ps middle some
+      → ((rest : List Placed) → bare rest ≡ some → Leads middle rest after more) → Leads s ps after more
   leads_on s ps middle after some more first others =
       let next = others first.rest first.told in
       record { rest = next.rest; told = next.told; reads = first.reads ∙ next.reads }
@@ -113,7 +117,8 @@ module _ {V : Tightness → Type 0} {K B : Type 0} (m : Maker V K B) where
   abbrev pub behind : {t : Tightness} → State V K B → Phrase t → State V K B
   behind s Always = moved m s moves.Always
   behind s (Compare sort left cmp) =
-      moved m (moved m (moved m s (moves.BeginAtom sort left)) (moves.Skip (wants.Right sort left cmp))) (moves.Compare sort left cmp)
+      moved m (moved m (moved m s (moves.BeginAtom sort left)) (moves.Skip (wants.Right sort left cmp)))
+      (moves.Compare sort left cmp)
   behind s (Shifted left cmp sign n) =
       moved m (moved m (moved m (moved m (moved m s (moves.BeginAtom Pos left)) (moves.Skip (wants.Right Pos left cmp)))
       (moves.Compare Pos left cmp)) (moves.Skip (wants.Number left cmp sign))) (moves.Shift left cmp sign n)
@@ -145,7 +150,8 @@ module _ {V : Tightness → Type 0} {K B : Type 0} (m : Maker V K B) where
       let here : level ≡ record { outside = s.control.outside; nots = s.control.nots; any = s.any; all = s.all } = cc in
       let others : levels ≡ s.outer = cc in
       ap (λ x. around x level.outside levels) kept
-      ∙ (ap (λ n. around (forget s) n levels) (ap (λ x. x.outside) here) ∙ ap (λ l. around (forget s) s.control.outside l) others)
+      ∙ (ap (λ n. around (forget s) n levels) (ap (λ x. x.outside) here)
+      ∙ ap (λ l. around (forget s) s.control.outside l) others)
 
   -- so does reading a whole phrase
   pub behind_keeps : {t : Tightness} (s : State V K B) (p : Phrase t) → forget (behind s p) ≡ forget s
@@ -153,7 +159,8 @@ module _ {V : Tightness → Type 0} {K B : Type 0} (m : Maker V K B) where
   behind_keeps s (Compare sort left cmp) = refl
   behind_keeps s (Shifted left cmp sign n) = refl
   behind_keeps s (Negated u) = behind_keeps (moved m s moves.Negate) u
-  behind_keeps s (Round d) = closed_keeps s (behind (moved m s moves.Open) d) _ refl (behind_keeps (moved m s moves.Open) d)
+  behind_keeps s (Round d) =
+      closed_keeps s (behind (moved m s moves.Open) d) _ refl (behind_keeps (moved m s moves.Open) d)
   behind_keeps s (One u) = behind_keeps s u
   behind_keeps s (Both c u) =
       behind_keeps (moved m (behind s c) moves.And) u ∙ behind_keeps s c
@@ -161,12 +168,14 @@ module _ {V : Tightness → Type 0} {K B : Type 0} (m : Maker V K B) where
   behind_keeps s (Either d c) =
       behind_keeps (moved m (behind s d) moves.Or) c ∙ behind_keeps s d
 
-  closed_atoms : (s : State V K B) (levels : List (Nesting V)) → (closed_parentheses m s levels).control.atoms ≡ s.control.atoms
+  closed_atoms : (s : State V K B) (levels : List (Nesting V))
+      → (closed_parentheses m s levels).control.atoms ≡ s.control.atoms
   closed_atoms s [] = refl
   closed_atoms s (level ∷ levels) = refl
 
   -- the atoms behind a phrase
-  pub behind_atoms : {t : Tightness} (s : State V K B) (p : Phrase t) → (behind s p).control.atoms ≡ s.control.atoms + atoms_in p
+  pub behind_atoms : {t : Tightness} (s : State V K B) (p : Phrase t)
+      → (behind s p).control.atoms ≡ s.control.atoms + atoms_in p
   behind_atoms s Always = refl
   behind_atoms s (Compare sort left cmp) = refl
   behind_atoms s (Shifted left cmp sign n) = refl
@@ -184,7 +193,8 @@ module _ {V : Tightness → Type 0} {K B : Type 0} (m : Maker V K B) where
       let right = behind_atoms (moved m (behind s d) moves.Or) c in
       omega (arith, left, right)
 
-  closed_is_behind : (s : State V K B) (levels : List (Nesting V)) → (closed_parentheses m s levels).control.want ≡ wants.Operator
+  closed_is_behind : (s : State V K B) (levels : List (Nesting V))
+      → (closed_parentheses m s levels).control.want ≡ wants.Operator
   closed_is_behind s [] = refl
   closed_is_behind s (level ∷ levels) = refl
 
@@ -214,7 +224,8 @@ module _ {V : Tightness → Type 0} {K B : Type 0} (m : Maker V K B) where
       (λ rest2 e2. leads_by s2 rest2 (Known (words.Thing sort (other_side left))) more (moves.Compare sort left cmp) e2
       (λ at. right_goes sort left cmp)))
 
-  pub same_chars : {t : Tightness} (s : State V K B) (p : Phrase t) → has_chars (behind s p).control ≡ has_chars s.control
+  pub same_chars : {t : Tightness} (s : State V K B) (p : Phrase t)
+      → has_chars (behind s p).control ≡ has_chars s.control
   same_chars s p = ap (λ x. has_chars x.control) (behind_keeps s p)
 
   pub same_outside : {t : Tightness} (s : State V K B) (p : Phrase t) → (behind s p).control.outside ≡ s.control.outside
@@ -254,11 +265,13 @@ module _ {V : Tightness → Type 0} {K B : Type 0} (m : Maker V K B) where
       let s2 = behind s1 d in
       let around : 0 < s2.control.outside = let same = same_outside s1 d in omega (arith, same) in
       leads_on s ps s1 (behind s (Round d)) ((written_as d ++ Close ∷ []) ++ more) more
-      (leads_by s ps Open _ moves.Open e (λ at. at_wanted s.control at wants.Operand _ _ want (allowed_true _ _ (lt-ltb _ _ room))))
+      (leads_by s ps Open _ moves.Open e
+      (λ at. at_wanted s.control at wants.Operand _ _ want (allowed_true _ _ (lt-ltb _ _ room))))
       (λ rest e1. leads_on s1 rest s2 (behind s (Round d)) (Close ∷ more) more
       (leads s1 d rest (Close ∷ more) refl inner atoms ok (e1 ∙ append_assoc (written_as d) (Close ∷ []) more))
       (λ rest2 e2. leads_by s2 rest2 Close more moves.Close e2
-      (λ at. operator_goes s2.control at Close moves.Close (want_is_behind s1 d) (allowed_true _ _ (lt-ltb _ _ around)))))
+      (λ at. operator_goes s2.control at Close moves.Close (want_is_behind s1 d)
+      (allowed_true _ _ (lt-ltb _ _ around)))))
   leads s (One u) ps more want depth atoms ok e = leads s u ps more want depth atoms ok e
   leads s (Both c u) ps more want depth atoms ok e =
       let s1 = behind s c in
@@ -273,7 +286,8 @@ module _ {V : Tightness → Type 0} {K B : Type 0} (m : Maker V K B) where
       (λ rest e1. leads_on s1 rest s2 (behind s (Both c u)) (written_as u ++ more) more
       (leads_by s1 rest (Known words.And) _ moves.And e1
       (λ at. operator_goes s1.control at (Known words.And) moves.And (want_is_behind s c) refl))
-      (λ rest2 e2. leads s2 u rest2 more refl second fewer (still_allowed _ _ u (same_chars s c) (and_parts _ _ ok).1) e2))
+      (λ rest2 e2. leads s2 u rest2 more refl second fewer
+      (still_allowed _ _ u (same_chars s c) (and_parts _ _ ok).1) e2))
   leads s (Single c) ps more want depth atoms ok e = leads s c ps more want depth atoms ok e
   leads s (Either d c) ps more want depth atoms ok e =
       let s1 = behind s d in
@@ -288,12 +302,14 @@ module _ {V : Tightness → Type 0} {K B : Type 0} (m : Maker V K B) where
       (λ rest e1. leads_on s1 rest s2 (behind s (Either d c)) (written_as c ++ more) more
       (leads_by s1 rest (Known words.Or) _ moves.Or e1
       (λ at. operator_goes s1.control at (Known words.Or) moves.Or (want_is_behind s d) refl))
-      (λ rest2 e2. leads s2 c rest2 more refl second fewer (still_allowed _ _ c (same_chars s d) (and_parts _ _ ok).1) e2))
+      (λ rest2 e2. leads s2 c rest2 more refl second fewer
+      (still_allowed _ _ c (same_chars s d) (and_parts _ _ ok).1) e2))
 
   -- what a phrase that was read leaves behind, by how tightly it holds together
   abbrev pub Says : (t : Tightness) → State V K B → State V K B → V t → Type 0
   Says Tight s after value =
-      (after.any ≡ s.any) × (after.all ≡ s.all) × (negate m after.control.nots after.last ≡ negate m s.control.nots value)
+      (after.any ≡ s.any) × (after.all ≡ s.all)
+      × (negate m after.control.nots after.last ≡ negate m s.control.nots value)
   Says Joined s after value =
       s.all ≡ None → s.control.nots ≡ 0 → (after.any ≡ s.any) × (conjunction m after ≡ value)
   Says Loose s after value =
@@ -314,8 +330,12 @@ module _ {V : Tightness → Type 0} {K B : Type 0} (m : Maker V K B) where
       let here : level ≡ record { outside = s.control.outside; nots = s.control.nots; any = s.any; all = s.all } = cc in
       let any : level.any ≡ s.any = ap (λ x. x.any) here in
       let all : level.all ≡ s.all = ap (λ x. x.all) here in
-      let nots : level.nots ≡ s.control.nots = ap (λ x. x.nots) here in
-      (any, all, ap (λ n. negate m n (m.round (disjunction m inner))) nots ∙ ap (λ d. negate m s.control.nots (m.round d)) inside)
+      let nots : level.nots ≡ s.control.nots = ap (λ x. x.nots) here in (
+        any,
+        all,
+        ap (λ n. negate m n (m.round (disjunction m inner))) nots
+            ∙ ap (λ d. negate m s.control.nots (m.round d)) inside,
+      )
 
   -- a phrase that was read is made
   pub says : {t : Tightness} (s : State V K B) (p : Phrase t) → Says t s (behind s p) (made m p)
@@ -351,4 +371,5 @@ module _ {V : Tightness → Type 0} {K B : Type 0} (m : Maker V K B) where
       let s2 = moved m s1 moves.Or in
       let left = says s d any all nots in
       let right = says s2 c refl refl in
-      ap (λ x. choose m x (conjunction m (behind s2 c))) (right.0 ∙ ap (λ x. Some x) left) ∙ ap (λ x. m.either (made m d) x) right.1
+      ap (λ x. choose m x (conjunction m (behind s2 c))) (right.0 ∙ ap (λ x. Some x) left)
+      ∙ ap (λ x. m.either (made m d) x) right.1

@@ -14,16 +14,16 @@ use Rattle.fn_tokens.specs.declared.token.Token.{Token}
 use Rattle.fn_tokens.specs.declared.token.Token.TheVariants.{Known, Number, LineEnd}
 use Rattle.fn_tokens.specs.declared.token.Word.TheVariants as words
 use Rattle.fn_tokens.specs.declared.token.Placed.{Placed}
-use Rattle.fn_moves.specs.declared.control.AfterLine.TheVariants as nexts
-use Rattle.fn_moves.specs.declared.control.Want.{Want}
-use Rattle.fn_moves.specs.declared.control.Want.TheVariants as wants
-use Rattle.fn_moves.specs.declared.control.TokenMove.TheVariants as moves
-use Rattle.fn_moves.specs.declared.language.Language.{Language}
-use Rattle.fn_moves.specs.declared.language.Language.TheVariants as languages
-use Rattle.fn_moves.specs.Kinds.{with_kind, declares_some, comes_next}
-use Rattle.fn_moves.specs.Languages.{number_of, has_word, has_words}
+use Rattle.fn_tokens.specs.declared.control.AfterLine.TheVariants as nexts
+use Rattle.fn_tokens.specs.declared.control.Want.{Want}
+use Rattle.fn_tokens.specs.declared.control.Want.TheVariants as wants
+use Rattle.fn_tokens.specs.declared.control.TokenMove.TheVariants as moves
+use Rattle.fn_tokens.specs.declared.language.Language.{Language}
+use Rattle.fn_tokens.specs.declared.language.Language.TheVariants as languages
+use Rattle.fn_tokens.specs.Kinds.{with_kind, declares_some, comes_next}
+use Rattle.fn_tokens.specs.Languages.{number_of, has_word, has_words}
 use Rattle.fn_grammar.specs.Print.{present, kind_tokens, assumption_tokens, first_lines, head_tokens}
-use Rattle.fn_moves.specs.Meaning.{Maker}
+use Rattle.fn_tokens.specs.Meaning.{Maker}
 use Rattle.fn_text.specs.Reader.{State, first_state, first_control}
 use Rattle.fn_tokens.specs.Tokens.{bare}
 use Rattle.fn_grammar.proofs.OwnBlocks.{head_of}
@@ -63,10 +63,10 @@ module _ {V : Tightness → Type 0} {K B : Type 0} (m : Maker V K B) where
       let s3 = before_blocks wants.Text language empty in
       let s4 = before_blocks wants.Mode language empty in
       let s5 = before_blocks (wants.LineEnd nexts.Kinds) language full in
-      leads_on m s0 ps s1 after (Number (number_of language) ∷ LineEnd ∷ Known words.Text ∷ Known (words.Mode mode) ∷ LineEnd ∷ more) more
-      (leads_by m s0 ps (Known words.Otfn) _ (moves.Skip wants.Version) e (λ at. refl))
-      (λ rest e1. leads_on m s1 rest s2 after (LineEnd ∷ Known words.Text ∷ Known (words.Mode mode) ∷ LineEnd ∷ more) more
-      (leads_by m s1 rest (Number (number_of language)) _ (moves.SetLanguage language) e1
+      leads_on m s0 ps s1 after (Number (number_of language) ∷ LineEnd ∷ Known words.Text ∷ Known (words.Mode mode)
+      ∷ LineEnd ∷ more) more (leads_by m s0 ps (Known words.Otfn) _ (moves.Skip wants.Version) e (λ at. refl))
+      (λ rest e1. leads_on m s1 rest s2 after (LineEnd ∷ Known words.Text ∷ Known (words.Mode mode) ∷ LineEnd ∷ more)
+      more (leads_by m s1 rest (Number (number_of language)) _ (moves.SetLanguage language) e1
       (λ at. ap (λ x. option_map (λ y. moves.SetLanguage y) x) (numbered language)))
       (λ rest2 e2. leads_on m s2 rest2 s3 after (Known words.Text ∷ Known (words.Mode mode) ∷ LineEnd ∷ more) more
       (leads_by m s2 rest2 LineEnd _ (moves.Skip wants.Text) e2 (λ at. refl))
@@ -79,7 +79,8 @@ module _ {V : Tightness → Type 0} {K B : Type 0} (m : Maker V K B) where
   -- a kind behind those that are declared
   leads_kind : (language : Language) (head : Head) (k : Kind) (ps : List Placed) (more : List Token) →
       has_word language k ≡ true → comes_next head k ≡ true → bare ps ≡ Known (words.Kind k) ∷ more →
-      Leads m (before_blocks wants.NextKind language head) ps (before_blocks wants.NextKind language (with_kind head k)) more
+      Leads m (before_blocks wants.NextKind language head) ps
+      (before_blocks wants.NextKind language (with_kind head k)) more
   leads_kind language head k ps more word next e =
       leads_by m (before_blocks wants.NextKind language head) ps (Known (words.Kind k)) more (moves.Declare k) e
       (λ at. allowed_true _ _ (and_from _ _ word next))
@@ -89,12 +90,13 @@ module _ {V : Tightness → Type 0} {K B : Type 0} (m : Maker V K B) where
       declares_some head ≡ true → bare ps ≡ LineEnd ∷ more →
       Leads m (before_blocks wants.NextKind language head) ps (before_blocks wants.Line language head) more
   leads_kinds_end language head ps more some e =
-      leads_by m (before_blocks wants.NextKind language head) ps LineEnd more (moves.Skip wants.Line) e (λ at. allowed_true _ _ some)
+      leads_by m (before_blocks wants.NextKind language head) ps LineEnd more (moves.Skip wants.Line) e
+      (λ at. allowed_true _ _ some)
 
   -- a kind, if it is declared
   leads_ins : (language : Language) (mode : Mode) (ins : Bool) (ps : List Placed) (more : List Token) →
-      (ins ≡ true → has_word language kinds.Ins ≡ true) → bare ps ≡ present ins (Known (words.Kind kinds.Ins) ∷ []) ++ more →
-      Leads m (before_blocks wants.NextKind language (head_of mode false false false false false)) ps
+      (ins ≡ true → has_word language kinds.Ins ≡ true) → bare ps ≡ present ins (Known (words.Kind kinds.Ins) ∷ [])
+      ++ more → Leads m (before_blocks wants.NextKind language (head_of mode false false false false false)) ps
       (before_blocks wants.NextKind language (head_of mode ins false false false false)) more
   leads_ins language mode false ps more word e = record { rest = ps; told = e; reads = refl }
   leads_ins language mode true ps more word e =
@@ -102,8 +104,8 @@ module _ {V : Tightness → Type 0} {K B : Type 0} (m : Maker V K B) where
 
   -- the deletion, if it is declared
   leads_del : (language : Language) (mode : Mode) (ins del : Bool) (ps : List Placed) (more : List Token) →
-      (del ≡ true → has_word language kinds.Del ≡ true) → bare ps ≡ present del (Known (words.Kind kinds.Del) ∷ []) ++ more →
-      Leads m (before_blocks wants.NextKind language (head_of mode ins false false false false)) ps
+      (del ≡ true → has_word language kinds.Del ≡ true) → bare ps ≡ present del (Known (words.Kind kinds.Del) ∷ [])
+      ++ more → Leads m (before_blocks wants.NextKind language (head_of mode ins false false false false)) ps
       (before_blocks wants.NextKind language (head_of mode ins del false false false)) more
   leads_del language mode ins false ps more word e = record { rest = ps; told = e; reads = refl }
   leads_del language mode ins true ps more word e =
@@ -115,8 +117,8 @@ module _ {V : Tightness → Type 0} {K B : Type 0} (m : Maker V K B) where
 
   -- the update, if it is declared
   leads_upd : (language : Language) (mode : Mode) (ins del upd : Bool) (ps : List Placed) (more : List Token) →
-      (upd ≡ true → has_word language kinds.Upd ≡ true) → bare ps ≡ present upd (Known (words.Kind kinds.Upd) ∷ []) ++ more →
-      Leads m (before_blocks wants.NextKind language (head_of mode ins del false false false)) ps
+      (upd ≡ true → has_word language kinds.Upd ≡ true) → bare ps ≡ present upd (Known (words.Kind kinds.Upd) ∷ [])
+      ++ more → Leads m (before_blocks wants.NextKind language (head_of mode ins del false false false)) ps
       (before_blocks wants.NextKind language (head_of mode ins del upd false false)) more
   leads_upd language mode ins del false ps more word e = record { rest = ps; told = e; reads = refl }
   leads_upd language mode ins del true ps more word e =
@@ -130,8 +132,8 @@ module _ {V : Tightness → Type 0} {K B : Type 0} (m : Maker V K B) where
 
   -- the kinds, of which there is one at least, and the end of their line
   leads_kinds : (language : Language) (mode : Mode) (ins del upd : Bool) (ps : List Placed) (more : List Token) →
-      declares_some (head_of mode ins del upd false false) ≡ true → has_words language (head_of mode ins del upd false false) ≡ true →
-      bare ps ≡ flat_map (kind_tokens (head_of mode ins del upd false false)) KINDS ++ LineEnd ∷ more →
+      declares_some (head_of mode ins del upd false false) ≡ true → has_words language (head_of mode ins del upd false
+      false) ≡ true → bare ps ≡ flat_map (kind_tokens (head_of mode ins del upd false false)) KINDS ++ LineEnd ∷ more →
       Leads m (before_blocks wants.NextKind language (head_of mode false false false false false)) ps
       (before_blocks wants.Line language (head_of mode ins del upd false false)) more
   leads_kinds language mode ins del upd ps more some speaks e =
@@ -174,8 +176,8 @@ module _ {V : Tightness → Type 0} {K B : Type 0} (m : Maker V K B) where
       (λ rest3 e3. leads_by m s3 rest3 LineEnd more (moves.Skip wants.Line) e3 (λ at. refl))))
 
   -- the line that the characters differ, if it is there
-  leads_chars : (language : Language) (mode : Mode) (ins del upd sites chars : Bool) (ps : List Placed) (more : List Token) →
-      bare ps ≡ assumption_tokens chars words.Chars ++ more →
+  leads_chars : (language : Language) (mode : Mode) (ins del upd sites chars : Bool) (ps : List Placed)
+      (more : List Token) → bare ps ≡ assumption_tokens chars words.Chars ++ more →
       Leads m (before_blocks wants.Line language (head_of mode ins del upd sites false)) ps
       (before_blocks wants.Line language (head_of mode ins del upd sites chars)) more
   leads_chars language mode ins del upd sites false ps more e = record { rest = ps; told = e; reads = refl }
@@ -194,8 +196,8 @@ module _ {V : Tightness → Type 0} {K B : Type 0} (m : Maker V K B) where
       (λ rest3 e3. leads_by m s3 rest3 LineEnd more (moves.Skip wants.Line) e3 (λ at. refl))))
 
   -- the lines before the blocks
-  pub leads_head : (language : Language) (head : Head) (ps : List Placed) (more : List Token) → declares_some head ≡ true →
-      has_words language head ≡ true → bare ps ≡ head_tokens language head ++ more →
+  pub leads_head : (language : Language) (head : Head) (ps : List Placed) (more : List Token)
+      → declares_some head ≡ true → has_words language head ≡ true → bare ps ≡ head_tokens language head ++ more →
       Leads m (first_state m) ps (before_blocks wants.Line language head) more
   unfolding head_tokens
   leads_head language head ps more some speaks e =

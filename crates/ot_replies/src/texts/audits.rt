@@ -10,7 +10,7 @@ ghost use Rattle.ot_replies.specs.CounterTexts.{line_of, op_text, way_text};
 
 use super::appending::{append_bytes, append_text};
 use super::counters::{write_op, write_ops, write_way_line};
-use audit_answers::{Audit, BlockAudit, Same};
+use ot_audit::{Audit, BlockAudit, Same};
 use ot_counter::WayResult;
 use ot_model::{Kind, NoMemory, Op};
 use std::alloc::Global;

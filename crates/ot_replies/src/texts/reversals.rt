@@ -7,7 +7,7 @@ use super::appending::append_bytes;
 use super::audits::{write_form_line, write_spent};
 use super::counters::{write_doc_line, write_ops};
 use super::lines::write_word_line;
-use audit_answers::Back;
+use ot_audit::Back;
 use ot_model::{Doc, NoMemory, Op};
 use std::alloc::Global;
 

@@ -11,5 +11,6 @@ returns-clause-words g c =
     (inr (
       c.in-Ok-words_of.words.items,
       c.in-Ok-words_of.ensures,
-      subst (λ (l : List (String Global)). Ended (map string_bytes l) (exit_status c.end_with_run.result)) named c.end_with_run.ensures,
+      subst (λ (l : List (String Global)). Ended (map string_bytes l) (exit_status c.end_with_run.result))
+          named c.end_with_run.ensures,
     ))

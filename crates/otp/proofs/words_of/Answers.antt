@@ -12,7 +12,8 @@ Words = IntoIter Word Global
 
 abbrev steps : Words → Option Word → Words → Type 0
 steps s r t =
-    MatchOption r ((s.rest.len ≡ 0) × (t.rest.len ≡ 0)) (λ word. (s.rest.items ≡ word ∷ t.rest.items) × (t.rest.len + 1 ≡ s.rest.len))
+    MatchOption r ((s.rest.len ≡ 0) × (t.rest.len ≡ 0))
+    (λ word. (s.rest.items ≡ word ∷ t.rest.items) × (t.rest.len + 1 ≡ s.rest.len))
 
 -- what was collected to the end is all that came
 drained : {E : Type 0} (s : Words) (r : Result (Vec Word Global) E)

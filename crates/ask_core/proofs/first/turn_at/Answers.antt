@@ -2,11 +2,13 @@ use Rattle.ask_core.proofs.FirstPlaces.{AreOwn-same, branches_at-same, is_own-fi
 use Rattle.ask_core.proofs.first.turn_at.Goals as goal
 
 pub turn-requires : goal.turn-requires
-turn-requires g c = is_own-first (g.A.Asker.is_own c.args.asker.now) c.args.path.now c.node.result c.node.ensures c.requires.own
+turn-requires g c =
+    is_own-first (g.A.Asker.is_own c.args.asker.now) c.args.path.now c.node.result c.node.ensures c.requires.own
 
 pub returns-clause-begins : goal.returns-clause-begins
 returns-clause-begins g c =
-    rw (plan-first (g.A.Asker.plan c.turn.new.self) c.args.path.now c.node.result c.node.ensures) at c.turn.ensures.begins
+    rw (plan-first (g.A.Asker.plan c.turn.new.self) c.args.path.now c.node.result c.node.ensures) at
+    c.turn.ensures.begins
 
 pub returns-clause-fine : goal.returns-clause-fine
 returns-clause-fine g c =
@@ -21,11 +23,13 @@ returns-clause-own g c =
     let A = g.A.Asker in
     let was = c.args.asker.now in
     let now = c.turn.new.self in
-    AreOwn-same (A.is_own was) (A.is_own now) (A.plan was) (A.plan now) c.args.path.now c.turn.ensures.same c.requires.own
+    AreOwn-same (A.is_own was) (A.is_own now) (A.plan was) (A.plan now) c.args.path.now
+    c.turn.ensures.same c.requires.own
 
 pub returns-clause-branches : goal.returns-clause-branches
 returns-clause-branches g c =
     let A = g.A.Asker in
     let was = c.args.asker.now in
     let now = c.turn.new.self in
-    branches_at-same (A.is_own was) (A.is_own now) (A.plan was) (A.plan now) c.args.path.now c.turn.ensures.same c.requires.own
+    branches_at-same (A.is_own was) (A.is_own now) (A.plan was) (A.plan now) c.args.path.now
+    c.turn.ensures.same c.requires.own

@@ -9,7 +9,8 @@ pub returns-in_err-trial-clause-reading : goal.returns-in_err-trial-clause-readi
 unfolding trial_in
 returns-in_err-trial-clause-reading c =
     error_passed_on c.from_residual.result c.in_err-trial.field-0.0 (case_in c.args.bytes.now)
-    (λ trial. tested (case_fault_of (function_of c.args.rules.now) trial) trial) c.from_residual.ensures.1 c.in_err-trial.ensures
+    (λ trial. tested (case_fault_of (function_of c.args.rules.now) trial) trial)
+    c.from_residual.ensures.1 c.in_err-trial.ensures
 
 pub fault_of-requires-clause-ops : goal.fault_of-requires-clause-ops
 fault_of-requires-clause-ops c =
@@ -27,7 +28,8 @@ returns-in-Some-clause-reading c =
 pub returns-in-None : goal.returns-in-None
 unfolding trial_in
 returns-in-None c =
-    let is : trial_in (function_of c.args.rules.now) c.args.bytes.now ≡ Ok c.in_ok-trial.trial = rw (c.in_ok-trial.ensures, ← c.in-None.ensures) refl in
+    let is : trial_in (function_of c.args.rules.now) c.args.bytes.now ≡ Ok c.in_ok-trial.trial =
+    rw (c.in_ok-trial.ensures, ← c.in-None.ensures) refl in
     record {
       reading = is;
       ready = c.read_trials_are_ready.ensures (function_of c.args.rules.now) c.args.bytes.now c.in_ok-trial.trial is;

@@ -1,4 +1,5 @@
-use Rattle.std.proofs.Common.{◌≡◌, ◌<◌, [], ◌∷◌, ◌++◌, length, length-append, Ok, Err, refl, sym, ap, arith, rules, lit≤, ◌∙◌}
+use Rattle.std.proofs.Common.{◌≡◌, ◌<◌, [], ◌∷◌, ◌++◌, length, length-append, Ok, Err, refl, sym, ap, arith, rules}
+use Rattle.std.proofs.Common.{lit≤, ◌∙◌}
 use Rattle.std.specs.Str.{chars}
 use Rattle.std.proofs.lemmas.Str.{chars-nil}
 use Rattle.std.proofs.lemmas.List.{nil_from_length}
@@ -6,11 +7,13 @@ use Rattle.ot_model.specs.declared.limits.TheConstants.{MAX_CELLS}
 use Rattle.case_json.specs.declared.fault.CaseFault.TheVariants.{Field, Limit}
 use Rattle.case_json.specs.declared.fault.Name.TheVariants.{Doc, Cells}
 use Rattle.case_json.specs.declared.stop.CaseError.TheVariants.{Fault}
-use Rattle.case_json.proofs.Reading.{chars_some, reading_goes_on, reading_stops, reading_is_full, reading_ends, written_reads}
+use Rattle.case_json.proofs.Reading.{chars_some, reading_goes_on, reading_stops, reading_is_full, reading_ends}
+use Rattle.case_json.proofs.Reading.{written_reads}
 use Rattle.case_json.proofs.doc_text.doc_read.Goals as goal
 
 pub loop-rest-init : goal.loop-rest-init
-loop-rest-init c = record { text = c.utf8.text; room = rw c.new-doc.ensures (lit≤ tt); read = rw c.new-doc.ensures refl }
+loop-rest-init c =
+    record { text = c.utf8.text; room = rw c.new-doc.ensures (lit≤ tt); read = rw c.new-doc.ensures refl }
 
 pub loop-rest-preserved : goal.loop-rest-preserved
 loop-rest-preserved c =

@@ -12,7 +12,8 @@ abbrev pub invariant-loop-rest : goal.invariant-loop-rest
 invariant-loop-rest l = record {
   text : shadow (Utf8 l.rest);
   room : length l.doc ≤ MAX_CELLS;
-  read : cells_within MAX_CELLS (chars l.text) ≡ with_all l.doc (cells_within (MAX_CELLS - length l.doc) (chars l.rest));
+  read : cells_within MAX_CELLS (chars l.text)
+      ≡ with_all l.doc (cells_within (MAX_CELLS - length l.doc) (chars l.rest));
 }
 
 abbrev pub decreases-loop-rest : goal.decreases-loop-rest

@@ -13,5 +13,6 @@ returns-in-Some-clause-some c =
 
 pub returns-in-None-clause-none : goal.returns-in-None-clause-none
 returns-in-None-clause-none c =
-    let empty : c.args.text.now ≡ [] = nil_from_length c.args.text.now (rw (← c.chars-rest.ensures.rest) c.in-None.ensures.steps.0.0) in
+    let empty : c.args.text.now ≡ [] = nil_from_length c.args.text.now
+    (rw (← c.chars-rest.ensures.rest) c.in-None.ensures.steps.0.0) in
     ap chars empty ∙ chars-nil

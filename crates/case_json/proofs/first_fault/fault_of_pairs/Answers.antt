@@ -11,7 +11,8 @@ use Rattle.case_json.proofs.first_fault.fault_of_pairs.Goals as goal
 
 -- the next operation is tested with those behind it
 at_member :
-    (f : Function) (i : ℕ) (ops : List Op) (d : Op) (whole found : Option CaseFault) → i < length ops → whole ≡ pairs_fault f i (drop i ops)
+    (f : Function) (i : ℕ) (ops : List Op) (d : Op) (whole found : Option CaseFault) → i < length ops
+    → whole ≡ pairs_fault f i (drop i ops)
     → found ≡ first_fault (pair_fault f i (get_or ops i d)) (i + 1) (take (length ops - (i + 1)) (drop (i + 1) ops))
     → whole ≡ option_or found (pairs_fault f (i + 1) (drop (i + 1) ops))
 at_member f i ops d whole found inside so_far is =
@@ -23,8 +24,8 @@ pub returns-then-is_some : goal.returns-then-is_some
 returns-then-is_some c =
     let f = function_of c.args.rules.now in
     let fault = c.fault_behind-fault.result in
-    sym (at_member f c.loop-i.i c.args.ops.now _ (pairs_fault f 0 c.args.ops.now) fault c.loop-i-test.true c.loop-i.invariant
-    c.fault_behind-fault.ensures ∙ here fault _ (sym c.is_some.ensures ∙ c.if-is_some.true))
+    sym (at_member f c.loop-i.i c.args.ops.now _ (pairs_fault f 0 c.args.ops.now) fault c.loop-i-test.true
+    c.loop-i.invariant c.fault_behind-fault.ensures ∙ here fault _ (sym c.is_some.ensures ∙ c.if-is_some.true))
 
 pub loop-i-preserved : goal.loop-i-preserved
 loop-i-preserved c =
@@ -36,4 +37,5 @@ loop-i-preserved c =
 pub returns : goal.returns
 returns c =
     let f = function_of c.args.rules.now in
-    sym (c.loop-i.invariant ∙ ap (λ (l : List Op). pairs_fault f c.loop-i.i l) (drop_all c.loop-i.i c.args.ops.now c.loop-i-test.false))
+    sym (c.loop-i.invariant
+    ∙ ap (λ (l : List Op). pairs_fault f c.loop-i.i l) (drop_all c.loop-i.i c.args.ops.now c.loop-i-test.false))

@@ -17,7 +17,8 @@ rest_is items i item inside is =
 pub loop-item-init : goal.loop-item-init
 loop-item-init g c =
     let whole = each g.T.Element.meant (map view c.args.items.now) in
-    sym (found_before-nothing whole) ∙ ap (λ (list : List g.row.T.Denot). found_before list whole) (sym c.new-list.ensures)
+    sym (found_before-nothing whole)
+    ∙ ap (λ (list : List g.row.T.Denot). found_before list whole) (sym c.new-list.ensures)
 
 -- the item stands for an element
 pub loop-item-preserved : goal.loop-item-preserved
@@ -28,8 +29,10 @@ loop-item-preserved g c =
     let item : Value = c.item-item.result in
     let behind : List Data = map view (drop (i + 1) items) in
     c.loop-item.invariant
-    ∙ ap (λ (rest : List Data). found_before c.loop-item.list (each reader rest)) (rest_is items i item c.loop-item-test.true c.item-item.is)
-    ∙ found-one_more reader c.loop-item.list (view item) behind c.in-Some.element (sym c.in_ok-element.ensures ∙ c.in-Some.is)
+    ∙ ap (λ (rest : List Data). found_before c.loop-item.list (each reader rest))
+    (rest_is items i item c.loop-item-test.true c.item-item.is)
+    ∙ found-one_more reader c.loop-item.list (view item) behind c.in-Some.element
+    (sym c.in_ok-element.ensures ∙ c.in-Some.is)
     ∙ ap (λ (list : List g.row.T.Denot). found_before list (each reader behind)) (sym c.in_ok-push.ensures.ok)
 
 -- it stands for none
@@ -40,8 +43,10 @@ returns-in_default g c =
     let i : ℕ = c.loop-item.item-index in
     let item : Value = c.item-item.result in
     sym (c.loop-item.invariant
-    ∙ ap (λ (rest : List Data). found_before c.loop-item.list (each reader rest)) (rest_is items i item c.loop-item-test.true c.item-item.is)
-    ∙ found-none reader c.loop-item.list (view item) (map view (drop (i + 1) items)) (sym c.in_ok-element.ensures ∙ c.in_default.is))
+    ∙ ap (λ (rest : List Data). found_before c.loop-item.list (each reader rest))
+    (rest_is items i item c.loop-item-test.true c.item-item.is)
+    ∙ found-none reader c.loop-item.list (view item) (map view (drop (i + 1) items))
+    (sym c.in_ok-element.ensures ∙ c.in_default.is))
 
 pub returns : goal.returns
 returns g c =

@@ -7,4 +7,5 @@ use Rattle.case_json.proofs.json.list_of_items.Given as goal
 -- what was read stands before what the reader makes of the rest
 abbrev pub invariant-loop-item : goal.invariant-loop-item
 invariant-loop-item g l =
-    each g.T.Element.meant (map view l.items) ≡ found_before l.list (each g.T.Element.meant (map view (drop l.item-index l.items)))
+    each g.T.Element.meant (map view l.items)
+    ≡ found_before l.list (each g.T.Element.meant (map view (drop l.item-index l.items)))

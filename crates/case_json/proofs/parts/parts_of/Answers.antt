@@ -14,7 +14,8 @@ use Rattle.case_json.proofs.parts.parts_of.Goals as goal
 pub returns-clause-limits : goal.returns-clause-limits
 returns-clause-limits g c =
     let json = view c.args.json.now in
-    let sites = sites_from-within (option_and_then as_u64 (option_and_then as_number (get (codes "sites") json))) c.in_ok-sites.sites c.in_ok-sites.ensures in
+    let sites = sites_from-within (option_and_then as_u64 (option_and_then as_number (get (codes "sites") json)))
+    c.in_ok-sites.sites c.in_ok-sites.ensures in
     record {
       few_cells =
           document_from-few (option_and_then as_str (get (codes "doc") json)) c.in_ok-doc.doc
@@ -22,6 +23,6 @@ returns-clause-limits g c =
       some_sites = sites.0;
       few_sites = sites.1;
       few_events =
-          elements_from-few Events MAX_EVENTS g.E.Element.meant (option_and_then elements_of (get (codes "events") json)) c.in_ok-events.events
-          c.in_ok-events.ensures;
+          elements_from-few Events MAX_EVENTS g.E.Element.meant
+          (option_and_then elements_of (get (codes "events") json)) c.in_ok-events.events c.in_ok-events.ensures;
     }

@@ -5,8 +5,11 @@ use Rattle.cert_text.proofs.piece.number_front.Goals as goal
 
 pub loop-i-init : goal.loop-i-init
 loop-i-init c =
-    let grown = c.in_ok-number.ensures.grown in
-    (grown.0, digits_grow c.args.bytes.now 0 _ [] _ (grind (arith, nat_tests, c.if-is_empty.false, c.is_empty.ensures)) refl refl (grown.1 []))
+    let grown = c.in_ok-number.ensures.grown in (
+      grown.0,
+      digits_grow c.args.bytes.now 0 _ [] _
+          (grind (arith, nat_tests, c.if-is_empty.false, c.is_empty.ensures)) refl refl (grown.1 []),
+    )
 
 pub loop-i-preserved : goal.loop-i-preserved
 loop-i-preserved c =

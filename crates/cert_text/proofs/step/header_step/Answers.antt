@@ -11,4 +11,5 @@ returns-in-Front-header_fit c =
 
 pub returns-in-Other-header_fit : goal.returns-in-Other-header_fit
 returns-in-Other-header_fit c =
-    no_header c.args.tp1.now c.args.tp2.now c.args.begun c.push.new.self c.args.byte c.push.ensures c.in-Other.ensures c.in-Other-header_fit.ensures
+    no_header c.args.tp1.now c.args.tp2.now c.args.begun c.push.new.self c.args.byte c.push.ensures c.in-Other.ensures
+    c.in-Other-header_fit.ensures

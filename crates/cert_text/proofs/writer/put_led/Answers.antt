@@ -1,4 +1,5 @@
-use Rattle.std.proofs.Common.{◌≡◌, ℕ, ◌/◌, ◌%◌, ◌+◌, ◌<◌, ◌≤◌, ◌^◌, List, [], ◌∷◌, ◌++◌, arith, sym, ap, ◌∙◌, append_assoc}
+use Rattle.std.proofs.Common.{◌≡◌, ℕ, ◌/◌, ◌%◌, ◌+◌, ◌<◌, ◌≤◌, ◌^◌, List, [], ◌∷◌, ◌++◌, arith, sym, ap, ◌∙◌}
+use Rattle.std.proofs.Common.{append_assoc}
 use Rattle.std.proofs.lemmas.Fmt.{decimal_digit, decimal_step}
 use Rattle.std.specs.Fmt.{decimal}
 use Rattle.cert_text.proofs.writer.put_led.Goals as goal
@@ -7,7 +8,8 @@ one_digit : (n digit : ℕ) → n < 10 → digit ≡ 48 + n → decimal n ≡ di
 one_digit n digit below is = decimal_digit n below ∙ ap (λ (d : ℕ). d ∷ []) (sym is)
 
 two_digits :
-    (n first second : ℕ) → 10 ≤ n → n < 100 → first ≡ 48 + n / 10 → second ≡ 48 + n % 10 → decimal n ≡ first ∷ second ∷ []
+    (n first second : ℕ) → 10 ≤ n → n < 100 → first ≡ 48 + n / 10 → second ≡ 48 + n % 10
+    → decimal n ≡ first ∷ second ∷ []
 two_digits n first second above below first_is second_is =
     let tens : n / 10 < 10 = omega arith in
     let small : n < 2 ^ 64 = omega arith in
@@ -16,14 +18,17 @@ two_digits n first second above below first_is second_is =
     ∙ ap (λ (d : ℕ). first ∷ d ∷ []) (sym second_is)
 
 -- bytes that were put behind others one by one
-put_two : (old one two : List ℕ) (lead d : ℕ) → one ≡ old ++ lead ∷ [] → two ≡ one ++ d ∷ [] → two ≡ old ++ lead ∷ d ∷ []
-put_two old one two lead d one_is two_is = two_is ∙ ap (λ (l : List ℕ). l ++ d ∷ []) one_is ∙ append_assoc old (lead ∷ []) (d ∷ [])
+put_two : (old one two : List ℕ) (lead d : ℕ) → one ≡ old ++ lead ∷ [] → two ≡ one ++ d ∷ []
+    → two ≡ old ++ lead ∷ d ∷ []
+put_two old one two lead d one_is two_is = two_is ∙ ap (λ (l : List ℕ). l ++ d ∷ []) one_is
+    ∙ append_assoc old (lead ∷ []) (d ∷ [])
 
 put_three :
     (old one two three : List ℕ) (lead d e : ℕ) → one ≡ old ++ lead ∷ [] → two ≡ one ++ d ∷ [] → three ≡ two ++ e ∷ []
     → three ≡ old ++ lead ∷ d ∷ e ∷ []
 put_three old one two three lead d e one_is two_is three_is =
-    three_is ∙ ap (λ (l : List ℕ). l ++ e ∷ []) (put_two old one two lead d one_is two_is) ∙ append_assoc old (lead ∷ d ∷ []) (e ∷ [])
+    three_is ∙ ap (λ (l : List ℕ). l ++ e ∷ []) (put_two old one two lead d one_is two_is)
+    ∙ append_assoc old (lead ∷ d ∷ []) (e ∷ [])
 
 pub returns-then-number-lt10-clause-items : goal.returns-then-number-lt10-clause-items
 returns-then-number-lt10-clause-items c =

@@ -1,4 +1,5 @@
-use Rattle.std.proofs.Common.{rules, Fits, w32, ◌≡◌, ℕ, ◌+◌, ◌<◌, ◌^◌, List, [], ◌∷◌, ◌++◌, length, arith, refl, sym, ap, ◌∙◌, subst}
+use Rattle.std.proofs.Common.{rules, Fits, w32, ◌≡◌, ℕ, ◌+◌, ◌<◌, ◌^◌, List, [], ◌∷◌, ◌++◌, length, arith, refl, sym}
+use Rattle.std.proofs.Common.{ap, ◌∙◌, subst}
 use Rattle.std.specs.List.{AllByRecursion}
 use Rattle.std.proofs.lemmas.List.{append-nil}
 use Rattle.std.proofs.Math.Seq.{append_snoc}
@@ -32,7 +33,8 @@ loop-number-preserved g c =
     let more = longer _ _ _ c.in-Some.ensures in (
       h.0 ++ n ∷ [],
       h.1 ∙ ap (λ l. h.0 ++ l) c.in-Some.ensures ∙ sym (append_snoc h.0 n _),
-      one_more_number h.0 n c.args.out.now.items c.loop-number.out.items c.put_led.new.out.items h.2 c.put_led.ensures.items,
+      one_more_number h.0 n c.args.out.now.items c.loop-number.out.items c.put_led.new.out.items
+          h.2 c.put_led.ensures.items,
       with_word h.0 n h.3 (let fits : Fits w32 n = search rules in omega (arith, fits)),
       omega (arith, h.4, more, c.put_led.ensures.len, c.put_led.ensures.capacity),
     )

@@ -13,4 +13,5 @@ returns-in-Ok c =
 
 pub returns : goal.returns
 returns c = sym (found_by-refused (app_of c.args.command) (map string_bytes c.args.words.now)
-    (λ none. c.in_default.not-OutOfMemory (c.kind.ensures ∙ only_memory _ c.in-Err.error none (c.in-Err.ensures.kinds c.requires))))
+    (λ none. c.in_default.not-OutOfMemory (c.kind.ensures
+    ∙ only_memory _ c.in-Err.error none (c.in-Err.ensures.kinds c.requires))))

@@ -10,7 +10,8 @@ use Rattle.diff_bounds.proofs.rows.add.Goals as goal
 
 -- the ways are those of the row that is read
 ways_along :
-    (rows : List (List (Option Hop))) (row ways : List (Option Hop)) (l : Lit) (number : ℕ) → l.x < length rows → IsSquare rows
+    (rows : List (List (Option Hop))) (row ways : List (Option Hop)) (l : Lit) (number : ℕ)
+    → l.x < length rows → IsSquare rows
     → row ≡ get_or rows l.x []
     → ((x : ℕ) → x < length row → get_or ways x None ≡ way_of number l x (get_or row x None))
     → (x : ℕ) → x < length rows → get_or ways x None ≡ way_of number l x (kept_of rows x l.x)
@@ -20,7 +21,8 @@ ways_along rows row ways l number x_below square read are x below =
 
 -- those that are left are those that lead lower than what the row of their end keeps
 lower_along :
-    (rows : List (List (Option Hop))) (row ways left : List (Option Hop)) (from : ℕ) → from < length rows → IsSquare rows
+    (rows : List (List (Option Hop))) (row ways left : List (Option Hop)) (from : ℕ)
+    → from < length rows → IsSquare rows
     → row ≡ get_or rows from [] → length ways ≡ length rows
     → ((x : ℕ) → x < length ways → get_or left x None ≡ lower_way (get_or row x None) (get_or ways x None))
     → (x : ℕ) → x < length rows → get_or left x None ≡ lower_way (kept_of rows x from) (get_or ways x None)
@@ -64,10 +66,10 @@ lower_rows-requires g c =
                 (
                   c.requires.modest,
                   λ y yn.
-                      IsLed-left rows ways left lit.y ps c.requires.stands.1 c.requires.square y_below lower lit.x y x_below yn
-                      (IsLed-through rows ways c.args.number lit ps c.requires.stands.1 c.requires.square c.requires.named
-                      (ways_along rows c.index-rows-lit.result ways lit c.args.number x_below c.requires.square read
-                      c.begin_ways.ensures.ways) y yn),
+                      IsLed-left rows ways left lit.y ps c.requires.stands.1 c.requires.square y_below lower lit.x
+                      y x_below yn (IsLed-through rows ways c.args.number lit ps c.requires.stands.1 c.requires.square
+                      c.requires.named (ways_along rows c.index-rows-lit.result ways lit c.args.number x_below
+                      c.requires.square read c.begin_ways.ensures.ways) y yn),
                 ),
               ),
             ),
@@ -99,4 +101,5 @@ returns-clause-added g c =
     (λ y yn.
     IsLowered-left rows ways left lit.y c.requires.stands.0 c.requires.stands.1 c.requires.square y_below lower y
     (get_or c.lower_rows.new.rows y []) yn (c.lower_rows.ensures y yn))
-    (ways_along rows c.index-rows-lit.result ways lit c.args.number x_below c.requires.square read c.begin_ways.ensures.ways)
+    (ways_along rows c.index-rows-lit.result ways lit c.args.number x_below c.requires.square read
+    c.begin_ways.ensures.ways)

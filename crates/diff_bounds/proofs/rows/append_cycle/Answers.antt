@@ -18,4 +18,5 @@ returns-in-Ok-clause-ok g c =
     (rw c.reserve.ensures.items at c.push_reserved.ensures.items)
     ∙ append_on c.args.picks.now.items c.args.number (numbers_along (λ x. get_or row x None) (length row) lit.y lit.x)
     ∙ ap (λ (n : ℕ). c.args.picks.now.items ++ c.args.number ∷ numbers_along (λ x. get_or row x None) n lit.y lit.x) len
-    ∙ ap (λ (r : List (Option Hop)). c.args.picks.now.items ++ c.args.number ∷ numbers_along (λ x. get_or r x None) (length rows) lit.y lit.x) read
+    ∙ ap (λ (r : List (Option Hop)). c.args.picks.now.items ++ c.args.number
+    ∷ numbers_along (λ x. get_or r x None) (length rows) lit.y lit.x) read

@@ -7,4 +7,5 @@ returns-then-pick-lits c =
     sym (ap is_some (picked_past c.args.lits.now c.args.picks.now c.loop-pick.pick-index (omega arith) (omega arith)))
 
 pub returns : goal.returns
-returns c = sym (ap is_some (picked_below c.args.lits.now c.args.picks.now (λ i inside. c.loop-pick.invariant i (omega arith))))
+returns c =
+    sym (ap is_some (picked_below c.args.lits.now c.args.picks.now (λ i inside. c.loop-pick.invariant i (omega arith))))

@@ -10,5 +10,6 @@ bounds-lits-pick c = place_below c.args.lits.now c.args.picks.now (search rules)
 pub loop-pick-preserved : goal.loop-pick-preserved
 loop-pick-preserved c =
     let next = weight-drop c.args.lits.now c.args.picks.now c.loop-pick.pick-index c.loop-pick-test.true in
-    let fits : FitsSigned w32 (literal_at c.args.lits.now (get_or c.args.picks.now c.loop-pick.pick-index 0)).k = search rules in
+    let fits : FitsSigned w32 (literal_at c.args.lits.now (get_or c.args.picks.now c.loop-pick.pick-index 0)).k =
+    search rules in
     (omega (arith, ints), omega (arith, ints), omega (arith, ints))

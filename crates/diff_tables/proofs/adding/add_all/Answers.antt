@@ -8,7 +8,8 @@ use Rattle.diff_tables.proofs.AddingSteps.{All-at, AreModest-adding, IsAdding-mo
 use Rattle.diff_tables.proofs.adding.add_all.Goals as goal
 
 -- a literal of the list is one over the names of as many rows
-named_at : (n m : ℕ) (ls : List Lit) (place : ℕ) → m ≡ n → AreNamed n ls → place < length ls → IsNamed m (literal_at ls place)
+named_at : (n m : ℕ) (ls : List Lit) (place : ℕ) → m ≡ n → AreNamed n ls → place < length ls
+    → IsNamed m (literal_at ls place)
 named_at n m ls place same named inside =
     subst (λ (k : ℕ). IsNamed k (literal_at ls place)) (sym same) (All-at (λ l. IsNamed n l) ls place named inside)
 
@@ -17,16 +18,18 @@ loop-place-init c =
     let old = c.args.rows.now in
     let none = IsAdding-none old c.args.lits.now c.requires.square in (
       none,
-      AreModest-adding (length old) old old c.args.lits.now 0 none c.requires.few c.requires.stands.0 c.requires.stands.1
-          c.requires.stands.2 c.requires.small,
+      AreModest-adding (length old) old old c.args.lits.now 0 none c.requires.few c.requires.stands.0
+          c.requires.stands.1 c.requires.stands.2 c.requires.small,
     )
 
 pub loop-place-preserved : goal.loop-place-preserved
 loop-place-preserved c =
     let old = c.args.rows.now in
     let so_far =
-    IsAdding-more (length old) (length c.loop-place.rows) old c.loop-place.rows c.insert.new.rows c.args.lits.now c.loop-place.place
-    c.loop-place.invariant.0 c.loop-place-test.true c.insert.auto.rows c.insert.ensures.square c.loop-place.auto.rows c.insert.ensures.stands in (
+    IsAdding-more (length old) (length c.loop-place.rows) old c.loop-place.rows c.insert.new.rows
+    c.args.lits.now c.loop-place.place
+    c.loop-place.invariant.0 c.loop-place-test.true c.insert.auto.rows c.insert.ensures.square c.loop-place.auto.rows
+    c.insert.ensures.stands in (
       so_far,
       AreModest-adding (length old) old c.insert.new.rows c.args.lits.now (c.loop-place.place + 1) so_far c.requires.few
           c.requires.stands.0 c.requires.stands.1 c.requires.stands.2 c.requires.small,
@@ -34,19 +37,21 @@ loop-place-preserved c =
 
 pub allows-requires-clause-named : goal.allows-requires-clause-named
 allows-requires-clause-named c =
-    named_at (length c.args.rows.now) (length c.loop-place.rows) c.args.lits.now c.loop-place.place c.loop-place.auto.rows c.requires.named
-    c.loop-place-test.true
+    named_at (length c.args.rows.now) (length c.loop-place.rows) c.args.lits.now c.loop-place.place
+    c.loop-place.auto.rows c.requires.named c.loop-place-test.true
 
 pub allows-requires-clause-small : goal.allows-requires-clause-small
-allows-requires-clause-small c = All-at (λ l. IsSmall l) c.args.lits.now c.loop-place.place c.requires.small c.loop-place-test.true
+allows-requires-clause-small c =
+    All-at (λ l. IsSmall l) c.args.lits.now c.loop-place.place c.requires.small c.loop-place-test.true
 
 pub insert-requires-clause-named : goal.insert-requires-clause-named
 insert-requires-clause-named c =
-    named_at (length c.args.rows.now) (length c.loop-place.rows) c.args.lits.now c.loop-place.place c.loop-place.auto.rows c.requires.named
-    c.loop-place-test.true
+    named_at (length c.args.rows.now) (length c.loop-place.rows) c.args.lits.now c.loop-place.place
+    c.loop-place.auto.rows c.requires.named c.loop-place-test.true
 
 pub insert-requires-clause-small : goal.insert-requires-clause-small
-insert-requires-clause-small c = All-at (λ l. IsSmall l) c.args.lits.now c.loop-place.place c.requires.small c.loop-place-test.true
+insert-requires-clause-small c =
+    All-at (λ l. IsSmall l) c.args.lits.now c.loop-place.place c.requires.small c.loop-place-test.true
 
 pub returns-then-not-allows-clause-stands : goal.returns-then-not-allows-clause-stands
 returns-then-not-allows-clause-stands c = c.loop-place.invariant.0.stands

@@ -9,5 +9,6 @@ pub loop-x-preserved : goal.loop-x-preserved
 loop-x-preserved c =
     rw c.in_ok-push.ensures.items
     (ap (λ lit. c.loop-x.bounds.items ++ lit ∷ []) c.floor_literal.ensures
-    ∙ ap (λ xs. xs ++ record { x = 0; y = c.loop-x.x; k = pos 0 -ℤ get_or c.args.floors.now c.loop-x.x (pos 0) } ∷ []) c.loop-x.invariant
+    ∙ ap (λ xs. xs ++ record { x = 0; y = c.loop-x.x; k = pos 0 -ℤ get_or c.args.floors.now c.loop-x.x (pos 0) } ∷ [])
+    c.loop-x.invariant
     ∙ sym (floors_from-take c.args.floors.now c.loop-x.x c.loop-x-test.true))

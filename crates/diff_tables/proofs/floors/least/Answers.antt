@@ -9,12 +9,17 @@ split_at-requires c = c.name_count.ensures.fewest (length c.args.floors.now) c.r
 
 pub returns-clause-least : goal.returns-clause-least
 returns-clause-least c =
-    let first : AreLeast c.args.lits.now c.split_at.result.0.now c.in-Some.values.items = rw c.in-Some.is at c.in_ok-values.ensures.least in
-    let whole : c.in-Some.values.items ++ drop c.name_count.result c.args.floors.now ≡ c.extend_from_slice.new.self.items =
-    ap (λ xs. c.in-Some.values.items ++ xs) (sym c.split_at.ensures.back) ∙ sym c.in_ok-extend_from_slice.ensures.items in
+    let first : AreLeast c.args.lits.now c.split_at.result.0.now c.in-Some.values.items =
+    rw c.in-Some.is at c.in_ok-values.ensures.least in
+    let whole : c.in-Some.values.items ++ drop c.name_count.result c.args.floors.now
+    ≡ c.extend_from_slice.new.self.items =
+    ap (λ xs. c.in-Some.values.items ++ xs) (sym c.split_at.ensures.back)
+    ∙ sym c.in_ok-extend_from_slice.ensures.items in
     subst (λ (xs : List ℤ). AreLeast c.args.lits.now c.args.floors.now xs) whole
-    (AreLeast-with_floors c.args.lits.now c.args.floors.now c.in-Some.values.items c.name_count.result c.name_count.ensures.some
-    (c.name_count.ensures.fewest (length c.args.floors.now) c.requires.names c.requires.named) c.name_count.ensures.named
+    (AreLeast-with_floors c.args.lits.now c.args.floors.now c.in-Some.values.items c.name_count.result
+    c.name_count.ensures.some
+    (c.name_count.ensures.fewest (length c.args.floors.now) c.requires.names c.requires.named)
+    c.name_count.ensures.named
     (subst (λ (fs : List ℤ). AreLeast c.args.lits.now fs c.in-Some.values.items) c.split_at.ensures.front first))
 
 pub returns-clause-none : goal.returns-clause-none

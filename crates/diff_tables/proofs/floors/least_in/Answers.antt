@@ -5,8 +5,8 @@ use Rattle.diff_graph.specs.Limits.{AreNamed}
 use Rattle.diff_tables.specs.Tables.{kept_of, numbered_from, StandsFor}
 use Rattle.diff_tables.specs.Solutions.{valuation_of}
 use Rattle.diff_tables.proofs.AddingSteps.{StandsFor-new_rows}
-use Rattle.diff_tables.proofs.FloorSteps.{no_values_at_stop, All-first, All-second, StandsFor-first, AreSmall-numbered_from, AreMet-numbered_from}
-use Rattle.diff_tables.proofs.FloorSteps.{AreLeastMeeting-from_stands}
+use Rattle.diff_tables.proofs.FloorSteps.{no_values_at_stop, All-first, All-second, StandsFor-first}
+use Rattle.diff_tables.proofs.FloorSteps.{AreSmall-numbered_from, AreMet-numbered_from, AreLeastMeeting-from_stands}
 use Rattle.diff_tables.proofs.floors.least_in.Goals as goal
 
 pub add_all-requires-clause-stands : goal.add_all-requires-clause-stands
@@ -43,7 +43,8 @@ returns-in-Some-add_all-clause-none c = (
       c.in_default.ensures.stands))
       (subst (λ (n : ℕ). AreNamed n c.args.bounds.now) (sym c.add_all.auto.rows) c.requires.bounds_named)
       c.in-Some-add_all.ensures.refused.0 c.in-Some-add_all.ensures.refused.1 possible.0
-      (AreMet-numbered_from possible.0 c.args.lits.now (All-first (λ m. Meets possible.0 m) c.args.lits.now c.args.bounds.now possible.2))
+      (AreMet-numbered_from possible.0 c.args.lits.now
+      (All-first (λ m. Meets possible.0 m) c.args.lits.now c.args.bounds.now possible.2))
       (All-second (λ m. Meets possible.0 m) c.args.lits.now c.args.bounds.now possible.2),
   λ not. refl,
 )
@@ -64,5 +65,8 @@ returns-clause-least c =
 
 pub returns-clause-none : goal.returns-clause-none
 returns-clause-none c =
-    let least = returns-clause-least c in
-    (λ no. absurd (true≢false no), λ not. absurd (not (valuation_of c.in_ok-values.values.items, least.zero_first, least.met)))
+    let least = returns-clause-least c in (
+      λ no. absurd (true≢false no),
+      λ not.
+          absurd (not (valuation_of c.in_ok-values.values.items, least.zero_first, least.met)),
+    )

@@ -7,8 +7,9 @@ use Rattle.diff_graph.specs.Literals.{Meets, AreMet, IsPossible}
 use Rattle.diff_graph.specs.Limits.{AreNamed, AreSmall}
 use Rattle.diff_tables.specs.Solutions.{AreLeast, AreLeastMeeting, IsPossibleAbove, floors_from, IsBoundedBelow}
 use Rattle.diff_tables.proofs.AddingSteps.{All-append}
-use Rattle.diff_tables.proofs.FloorSteps.{AreNamed-floors_from, AreSmall-floors_from, length-floors_from, IsBoundedBelow-floors_from, AreLeast-from_meeting}
-use Rattle.diff_tables.proofs.FloorSteps.{All-first, All-second, AreMet-floors_from, floors-from_met}
+use Rattle.diff_tables.proofs.FloorSteps.{AreNamed-floors_from, AreSmall-floors_from, length-floors_from}
+use Rattle.diff_tables.proofs.FloorSteps.{IsBoundedBelow-floors_from, AreLeast-from_meeting, All-first, All-second}
+use Rattle.diff_tables.proofs.FloorSteps.{AreMet-floors_from, floors-from_met}
 use Rattle.diff_tables.proofs.floors.least_of_named.Goals as goal
 
 pub least_in-requires-clause-bounds_named : goal.least_in-requires-clause-bounds_named
@@ -34,7 +35,8 @@ least_in-requires-clause-bounded c =
     let bounds = c.deref.ensures.value ∙ c.in_ok-bounds.ensures in
     let len = ap length c.deref_mut.ensures.value ∙ c.in_ok-rows.ensures.0 in
     subst (λ (ls : List Lit). IsBoundedBelow (length c.deref_mut.result.now) ls) (sym bounds)
-    (subst (λ (n : ℕ). IsBoundedBelow n (floors_from 0 c.args.floors.now)) (sym len) (IsBoundedBelow-floors_from c.args.floors.now))
+    (subst (λ (n : ℕ). IsBoundedBelow n (floors_from 0 c.args.floors.now)) (sym len)
+    (IsBoundedBelow-floors_from c.args.floors.now))
 
 pub returns-clause-least : goal.returns-clause-least
 returns-clause-least c =
@@ -69,7 +71,8 @@ returns-clause-none c =
           ),
       λ not. both.1 (λ possible.
           (let met : AreMet possible.0
-          (lits ++ floors_from 0 floors) = subst (λ (ls : List Lit). AreMet possible.0 (lits ++ ls)) bounds possible.2 in
+          (lits ++ floors_from 0 floors) =
+          subst (λ (ls : List Lit). AreMet possible.0 (lits ++ ls)) bounds possible.2 in
           not (
             possible.0,
             possible.1,

@@ -1,6 +1,7 @@
 use Rattle.std.proofs.Common.{[], ◌∷◌, ◌++◌, sym}
 use Rattle.diff_tables.specs.Steps.{added}
-use Rattle.diff_tables.proofs.Stands.{StandsFor-kept, StandsFor-same, StandsFor-added, at_most-from_keeps, allowed-from_room}
+use Rattle.diff_tables.proofs.Stands.{StandsFor-kept, StandsFor-same, StandsFor-added, at_most-from_keeps}
+use Rattle.diff_tables.proofs.Stands.{allowed-from_room}
 use Rattle.diff_tables.proofs.laws.tables_stand_for_what_is_added.Goals as goal
 
 pub returns-clause-kept : goal.returns-clause-kept

@@ -33,7 +33,8 @@ returns-in_ok-cycle_at-in-Some-clause-solved c =
     (cycle-from_stands (length c.args.rows.now) (length c.add_all.new.rows)
     (kept_of c.add_all.new.rows) c.args.lits.now c.in-Some.place c.in_ok-cycle_at-in-Some.field-0.items
     (c.in-Some.ensures.stands [] (StandsFor-new_rows (length c.args.rows.now) c.args.rows.now c.requires.new))
-    c.add_all.auto.rows c.requires.named c.in-Some.ensures.refused.0 c.in-Some.ensures.refused.1 c.in_ok-cycle_at-in-Some.ensures)
+    c.add_all.auto.rows c.requires.named c.in-Some.ensures.refused.0 c.in-Some.ensures.refused.1
+    c.in_ok-cycle_at-in-Some.ensures)
 
 pub returns-in_ok-cycle_at-in-Some-clause-cycle : goal.returns-in_ok-cycle_at-in-Some-clause-cycle
 returns-in_ok-cycle_at-in-Some-clause-cycle c = (

@@ -11,8 +11,8 @@ way-requires-clause-modest c =
 
 pub loop-x-preserved : goal.loop-x-preserved
 loop-x-preserved c =
-    DoneBelow-more (λ x old. way_of c.args.number c.args.lit x old) c.args.ways.now c.loop-x.ways c.loop-x.x c.way.result
-    c.loop-x.invariant c.loop-x-test.true c.way.ensures
+    DoneBelow-more (λ x old. way_of c.args.number c.args.lit x old) c.args.ways.now c.loop-x.ways c.loop-x.x
+    c.way.result c.loop-x.invariant c.loop-x-test.true c.way.ensures
 
 pub returns-clause-ways : goal.returns-clause-ways
 returns-clause-ways c = λ x below. c.loop-x.invariant.done x (omega arith)
@@ -20,4 +20,5 @@ returns-clause-ways c = λ x below. c.loop-x.invariant.done x (omega arith)
 pub returns-clause-modest : goal.returns-clause-modest
 returns-clause-modest c = λ x below.
     subst (λ (o : Option Hop). IsModest 2000000 o) (sym (returns-clause-ways c x below))
-    (IsModest-way_of c.args.number c.args.lit x (get_or c.args.ways.now x None) c.requires.small (c.requires.modest x below))
+    (IsModest-way_of c.args.number c.args.lit x (get_or c.args.ways.now x None) c.requires.small
+    (c.requires.modest x below))

@@ -10,10 +10,10 @@ loop-x-preserved c =
     elim c.match-lower.branch [
       | in-Some w ↦
           rw w.row-is
-          (DoneBelow-more (λ x old. lower_of old (joined (get_or c.args.ways.now x None) (Some c.args.rest))) c.args.row.now
-          c.loop-x.row c.loop-x.x _ c.loop-x.invariant c.loop-x-test.true (sym w.in-Some.ensures.lower))
+          (DoneBelow-more (λ x old. lower_of old (joined (get_or c.args.ways.now x None) (Some c.args.rest)))
+          c.args.row.now c.loop-x.row c.loop-x.x _ c.loop-x.invariant c.loop-x-test.true (sym w.in-Some.ensures.lower))
       | in_default w ↦
           rw w.row-is
-          (DoneBelow-same (λ x old. lower_of old (joined (get_or c.args.ways.now x None) (Some c.args.rest))) c.args.row.now
-          c.loop-x.row c.loop-x.x c.loop-x.invariant (w.in_default.ensures.none refl))
+          (DoneBelow-same (λ x old. lower_of old (joined (get_or c.args.ways.now x None) (Some c.args.rest)))
+          c.args.row.now c.loop-x.row c.loop-x.x c.loop-x.invariant (w.in_default.ensures.none refl))
     ]

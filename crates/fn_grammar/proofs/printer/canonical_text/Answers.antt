@@ -9,7 +9,8 @@ use Rattle.fn_grammar.proofs.printer.canonical_text.Goals as goal
 pub returns-clause-short : goal.returns-clause-short
 returns-clause-short c =
     let text : c.in_ok-spell.field-0.items ≡ printed (function_of c.args.rules.now) = search rules in
-    subst (λ x. length x < 2 ^ 31) (sym text) (printed_is_short (function_of c.args.rules.now) c.in_ok-push_function.ensures.valid)
+    subst (λ x. length x < 2 ^ 31) (sym text)
+    (printed_is_short (function_of c.args.rules.now) c.in_ok-push_function.ensures.valid)
 
 pub returns-clause-of_function : goal.returns-clause-of_function
 returns-clause-of_function c =

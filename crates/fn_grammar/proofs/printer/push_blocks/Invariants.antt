@@ -5,4 +5,5 @@ use Rattle.fn_grammar.specs.Print.{blocks_with}
 use Rattle.fn_grammar.proofs.printer.push_blocks.Given as goal
 
 abbrev pub invariant-loop-first : goal.invariant-loop-first
-invariant-loop-first l = l.out.items ≡ l.initial.out.items ++ flat_map (blocks_with (function_of l.rules)) (take l.first-index l.firsts)
+invariant-loop-first l =
+    l.out.items ≡ l.initial.out.items ++ flat_map (blocks_with (function_of l.rules)) (take l.first-index l.firsts)

@@ -6,4 +6,5 @@ use Rattle.fn_rules.proofs.laws.rules_are_valid.Goals as goal
 
 pub returns : goal.returns
 unfolding function_of
-returns c = is_valid-buildable c.args.rules.now.head (map block_of c.args.rules.now.blocks.items) c.args.rules.now.within_limits
+returns c =
+    is_valid-buildable c.args.rules.now.head (map block_of c.args.rules.now.blocks.items) c.args.rules.now.within_limits

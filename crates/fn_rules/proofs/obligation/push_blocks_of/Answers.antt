@@ -11,8 +11,8 @@ loop-second-preserved c =
     elim c.if-declares_pair.branch [
       | then-declares_pair+in_ok-push w ↦
           rw w.blocks-is
-          (chosen_more (is_declared_of c.args.head.now) (λ l. (c.args.first, l)) old now w.push.new.self.items c.args.kinds.now
-          c.loop-second.second-index _ c.loop-second-test.true c.loop-second.invariant
+          (chosen_more (is_declared_of c.args.head.now) (λ l. (c.args.first, l)) old now w.push.new.self.items
+          c.args.kinds.now c.loop-second.second-index _ c.loop-second-test.true c.loop-second.invariant
           (sym c.declares_pair.ensures ∙ w.if-declares_pair.true) w.in_ok-push.ensures.items)
       | else-declares_pair w ↦
           rw w.blocks-is
@@ -23,5 +23,6 @@ loop-second-preserved c =
 
 pub returns : goal.returns
 returns c =
-    chosen_all (is_declared_of c.args.head.now) (λ l. (c.args.first, l)) c.args.blocks.now.items c.loop-second.blocks.items
+    chosen_all (is_declared_of c.args.head.now) (λ l. (c.args.first, l)) c.args.blocks.now.items
+    c.loop-second.blocks.items
     c.args.kinds.now c.loop-second.second-index c.loop-second-test.false c.loop-second.invariant

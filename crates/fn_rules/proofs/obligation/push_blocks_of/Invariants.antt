@@ -5,4 +5,5 @@ use Rattle.fn_rules.proofs.obligation.push_blocks_of.Given as goal
 
 abbrev pub invariant-loop-second : goal.invariant-loop-second
 invariant-loop-second l =
-    l.blocks.items ≡ l.initial.blocks.items ++ filter (is_declared_of l.head) (map (λ k. (l.first, k)) (take l.second-index l.kinds))
+    l.blocks.items ≡ l.initial.blocks.items
+    ++ filter (is_declared_of l.head) (map (λ k. (l.first, k)) (take l.second-index l.kinds))

@@ -4,4 +4,5 @@ use Rattle.fn_rules.proofs.rules.find_cases.Given as goal
 
 abbrev pub invariant-loop-block : goal.invariant-loop-block
 invariant-loop-block l =
-    cases_in (map block_of (drop l.block-index l.blocks)) l.first l.second ≡ cases_in (map block_of l.blocks) l.first l.second
+    cases_in (map block_of (drop l.block-index l.blocks)) l.first l.second
+    ≡ cases_in (map block_of l.blocks) l.first l.second

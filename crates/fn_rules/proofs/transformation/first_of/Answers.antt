@@ -9,4 +9,5 @@ holds-requires-clause-chars c =
     let below : c.loop-case.case-index < length c.args.cases.now = omega arith in
     IsReadyFor-valid (case_of c.case-item.result) c.args.a.now c.args.b.now
     (rw c.case-item.is
-    (is_valid_case-at (both_have_chars c.args.a.now c.args.b.now) c.args.cases.now c.loop-case.case-index c.case-item.result c.requires.valid below))
+    (is_valid_case-at (both_have_chars c.args.a.now c.args.b.now) c.args.cases.now c.loop-case.case-index
+    c.case-item.result c.requires.valid below))

@@ -1,6 +1,6 @@
 use Rattle.std.proofs.Common.{◌≡◌}
 use Rattle.fn_rules.specs.Formulas.{formula_of}
-use Rattle.fn_moves.specs.Meaning.{to_formulas}
+use Rattle.fn_tokens.specs.Meaning.{to_formulas}
 use Rattle.fn_text.specs.Reader.{negate}
 use Rattle.fn_text.proofs.reader.negated.Given as goal
 

@@ -4,4 +4,5 @@ use Rattle.fn_text.proofs.round_trip.print.Goals as goal
 
 pub returns-clause-reads_back : goal.returns-clause-reads_back
 returns-clause-reads_back c =
-    text_is_read c.in_ok-canonical_text.field-0.items (function_of c.args.rules.now) c.in_ok-canonical_text.ensures.of_function
+    text_is_read c.in_ok-canonical_text.field-0.items (function_of c.args.rules.now)
+    c.in_ok-canonical_text.ensures.of_function

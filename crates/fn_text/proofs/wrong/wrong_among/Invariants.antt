@@ -1,5 +1,5 @@
 use Rattle.std.proofs.Common.{◌≡◌, length}
-use Rattle.fn_moves.specs.Meaning.{to_formulas}
+use Rattle.fn_tokens.specs.Meaning.{to_formulas}
 use Rattle.fn_text.specs.Reader.{first_state}
 use Rattle.fn_text.specs.Made.{state_of}
 use Rattle.fn_text.specs.Wrong.{wrong_from}

@@ -8,5 +8,6 @@ returns-in-Err-clause-err g c =
     let long : c.len-before.result ≡ length old = c.len-before.ensures ∙ c.args.waiting.now.ok.0 in
     let cut : take c.len-before.result c.wait_for_cycles-2.new.waiting.items ≡ old =
     rw (long, c.in-Err.ensures.err)
-    (cycles_cut c.args.depth c.args.conditions.now old c.wait_for_cycles.new.waiting.items c.in_ok-wait_for_cycles.ensures.ok) in
+    (cycles_cut c.args.depth c.args.conditions.now old c.wait_for_cycles.new.waiting.items
+    c.in_ok-wait_for_cycles.ensures.ok) in
     c.truncate.ensures.items ∙ cut

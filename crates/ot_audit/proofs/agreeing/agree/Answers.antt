@@ -15,7 +15,8 @@ returns-in-Never c =
     let found = rw c.in-Never.is at c.in_ok-found.ensures.found in
     record {
       searched = found;
-      tells = c.findings_tell_of_all_operations.ensures.same f g c.args.first c.args.second c.args.budget c.requires.declared found;
+      tells = c.findings_tell_of_all_operations.ensures.same f g c.args.first c.args.second c.args.budget
+          c.requires.declared found;
     }
 
 -- both are of declared kinds
@@ -28,8 +29,8 @@ pair_at-requires c =
     let near = rw c.in-Pair.is at c.in_ok-found.ensures.near in
     let kinds = and_parts (is_declared f.head c.args.first) (is_declared f.head c.args.second) c.requires.declared in
     let differs =
-    c.findings_tell_of_all_operations.ensures.differ f g c.args.first c.args.second c.args.budget a b c.requires.declared
-    (rw c.in-Pair.is at c.in_ok-found.ensures.found) in
+    c.findings_tell_of_all_operations.ensures.differ f g c.args.first c.args.second c.args.budget a b
+    c.requires.declared (rw c.in-Pair.is at c.in_ok-found.ensures.found) in
     record {
       a_declared = of_head f.head f.head c.args.first a differs.0.first kinds.0 refl;
       b_declared = of_head f.head f.head c.args.second b differs.0.second kinds.1 refl;
@@ -45,7 +46,8 @@ returns-in-Pair c =
     let a = c.in-Pair.a in
     let b = c.in-Pair.b in
     let found = rw c.in-Pair.is at c.in_ok-found.ensures.found in
-    let differs = c.findings_tell_of_all_operations.ensures.differ f g c.args.first c.args.second c.args.budget a b c.requires.declared found in
+    let differs = c.findings_tell_of_all_operations.ensures.differ f g c.args.first c.args.second c.args.budget a b
+    c.requires.declared found in
     subst (λ (x : Agree). IsAgreedAs f g c.args.first c.args.second c.args.budget x) (sym c.pair_at.ensures)
     (record { searched = found; tells = (differs, refl, refl) })
 

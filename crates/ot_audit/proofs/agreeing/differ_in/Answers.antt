@@ -17,8 +17,8 @@ find-requires c =
 pub returns-clause-found : goal.returns-clause-found
 returns-clause-found c =
     let f = function_of c.args.rules.now in
-    subst (λ (t : GoalTree). IfOk c.find.result (IsFoundIn f c.args.first c.args.second t c.args.budget)) c.in_ok-goal.ensures
-    c.find.ensures.found
+    subst (λ (t : GoalTree). IfOk c.find.result (IsFoundIn f c.args.first c.args.second t c.args.budget))
+    c.in_ok-goal.ensures c.find.ensures.found
 
 pub returns-clause-near : goal.returns-clause-near
 returns-clause-near c = c.find.ensures.near

@@ -20,5 +20,6 @@ loop-number-preserved c =
     (length l ≡ c.loop-number.number + 1) × AreCases f c.args.first c.args.second c.args.budget 0 l)
     (sym c.in_ok-push.ensures.ok) (
       omega (arith, count, longer),
-      one_case_more f c.args.first c.args.second c.args.budget c.loop-number.number xs x count before.1 c.in_ok-found.ensures.ok,
+      one_case_more f c.args.first c.args.second c.args.budget c.loop-number.number xs x count before.1
+          c.in_ok-found.ensures.ok,
     )

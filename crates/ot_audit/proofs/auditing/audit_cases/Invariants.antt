@@ -5,4 +5,5 @@ use Rattle.ot_audit.proofs.auditing.audit_cases.Given as goal
 
 -- the cases so far
 abbrev pub invariant-loop-number : goal.invariant-loop-number
-invariant-loop-number l = (length l.cases ≡ l.number) × AreCases (function_of l.rules) l.first l.second l.budget 0 l.cases
+invariant-loop-number l =
+    (length l.cases ≡ l.number) × AreCases (function_of l.rules) l.first l.second l.budget 0 l.cases

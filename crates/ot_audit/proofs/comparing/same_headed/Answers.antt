@@ -11,7 +11,8 @@ pub returns : goal.returns
 returns c =
     let f = function_of c.args.rules.now in
     let g = function_of c.args.others.now in
-    let names = c.deref.ensures.value ∙ c.in_ok-names.ensures ∙ ap (λ (head : Head). declared_pairs head) c.head.ensures.head in
+    let names = c.deref.ensures.value ∙ c.in_ok-names.ensures
+    ∙ ap (λ (head : Head). declared_pairs head) c.head.ensures.head in
     IfOk-weaker c.same_blocks.result (AreCompared f g c.args.budget c.deref.result.now) (IsComparedAs f g c.args.budget)
     (λ same is. inr (
       c.requires,

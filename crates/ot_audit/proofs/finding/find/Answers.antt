@@ -20,7 +20,8 @@ but_for_the_length (At cells a b) = found.Pair a b
 but_for_the_length Spent = found.Spent
 
 least_there :
-    (k l : Kind) (o : Option (FailingEnd Why)) (cells : ℕ) (a b : Op) → MatchOption o ⊥ (λ e. IsLeastInstance k l e.answers cells a b)
+    (k l : Kind) (o : Option (FailingEnd Why)) (cells : ℕ) (a b : Op)
+    → MatchOption o ⊥ (λ e. IsLeastInstance k l e.answers cells a b)
     → MatchOption o ⊥ (λ e. AreLeastOps k l e.answers a b)
 least_there k l None cells a b least = least
 least_there k l (Some e) cells a b least = least.ops
@@ -41,14 +42,16 @@ returns-in-Nowhere-clause-found c =
     let f = function_of c.args.rules.now in
     let g = goal_tree c.args.goal.now in
     is_found f c.args.first c.args.second g c.args.budget Nowhere
-    (subst (λ (x : Sought). IsSoughtIn f c.args.first c.args.second g c.args.budget x) c.in-Nowhere.is c.in_ok-seek.ensures.sought)
+    (subst (λ (x : Sought). IsSoughtIn f c.args.first c.args.second g c.args.budget x) c.in-Nowhere.is
+    c.in_ok-seek.ensures.sought)
 
 pub returns-in-At-clause-found : goal.returns-in-At-clause-found
 returns-in-At-clause-found c =
     let f = function_of c.args.rules.now in
     let g = goal_tree c.args.goal.now in
     is_found f c.args.first c.args.second g c.args.budget _
-    (subst (λ (x : Sought). IsSoughtIn f c.args.first c.args.second g c.args.budget x) c.in-At.is c.in_ok-seek.ensures.sought)
+    (subst (λ (x : Sought). IsSoughtIn f c.args.first c.args.second g c.args.budget x) c.in-At.is
+    c.in_ok-seek.ensures.sought)
 
 pub returns-in-At-clause-near : goal.returns-in-At-clause-near
 returns-in-At-clause-near c = subst (λ (x : Sought). IsNearSought x) c.in-At.is c.in_ok-seek.ensures.near
@@ -58,4 +61,5 @@ returns-in-Spent-clause-found c =
     let f = function_of c.args.rules.now in
     let g = goal_tree c.args.goal.now in
     is_found f c.args.first c.args.second g c.args.budget Spent
-    (subst (λ (x : Sought). IsSoughtIn f c.args.first c.args.second g c.args.budget x) c.in-Spent.is c.in_ok-seek.ensures.sought)
+    (subst (λ (x : Sought). IsSoughtIn f c.args.first c.args.second g c.args.budget x) c.in-Spent.is
+    c.in_ok-seek.ensures.sought)

@@ -10,15 +10,18 @@ use Rattle.ot_audit.proofs.finding.least_instance.Goals as goal
 
 pub op_at-requires-2 : goal.op_at-requires-2
 op_at-requires-2 c =
-    subst (λ (values : List ℤ). IsSmallAt values B) (sym c.deref-3.ensures.value) (c.in_ok-values.ensures.small B (lit< tt))
+    subst (λ (values : List ℤ). IsSmallAt values B) (sym c.deref-3.ensures.value)
+    (c.in_ok-values.ensures.small B (lit< tt))
 
 pub returns-clause-least : goal.returns-clause-least
 returns-clause-least c = record {
   ops = record {
     values = c.in_ok-values.values.items;
     least = c.in_ok-values.ensures.least;
-    first = c.op_at.ensures.value ∙ ap (λ (vs : List ℤ). op_at (valuation_of vs) (sym_op c.args.first A)) c.deref-2.ensures.value;
-    second = c.op_at-2.ensures.value ∙ ap (λ (vs : List ℤ). op_at (valuation_of vs) (sym_op c.args.second B)) c.deref-3.ensures.value;
+    first = c.op_at.ensures.value
+        ∙ ap (λ (vs : List ℤ). op_at (valuation_of vs) (sym_op c.args.first A)) c.deref-2.ensures.value;
+    second = c.op_at-2.ensures.value
+        ∙ ap (λ (vs : List ℤ). op_at (valuation_of vs) (sym_op c.args.second B)) c.deref-3.ensures.value;
   };
   length = c.cells_at.ensures ∙ ap (λ (vs : List ℤ). valuation_of vs length_name) c.deref.ensures.value;
 }

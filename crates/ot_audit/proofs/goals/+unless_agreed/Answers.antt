@@ -25,6 +25,8 @@ by_case-requires-clause-near t c =
 
 pub returns-in_ok-here-in-len1-up : goal.returns-in_ok-here-in-len1-up
 returns-in_ok-here-in-len1-up t c =
-    first_placed c.by_case.result (λ r. goal_tree r.now) c.args.cases.now c.case-item.result c.args.a c.args.b c.result.result
-    (λ (x : Option SymOp). with_first_result (map case_of c.args.others.now) c.args.a c.args.b (λ y. unless_same x y)) _ _ c.in-len1-up.len_at_least c.case-item.is c.result.ensures.value
+    first_placed c.by_case.result (λ r. goal_tree r.now) c.args.cases.now c.case-item.result
+    c.args.a c.args.b c.result.result
+    (λ (x : Option SymOp). with_first_result (map case_of c.args.others.now) c.args.a c.args.b (λ y. unless_same x y)) _
+    _ c.in-len1-up.len_at_least c.case-item.is c.result.ensures.value
     c.in_ok-here-in-len1-up.ensures c.in_ok-behind-in-len1-up.ensures c.by_case.ensures

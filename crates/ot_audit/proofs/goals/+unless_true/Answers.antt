@@ -17,4 +17,5 @@ by_case-requires-clause-near t c =
 pub returns-in_ok-holds-in-len1-up : goal.returns-in_ok-holds-in-len1-up
 returns-in_ok-holds-in-len1-up t c =
     unless_placed c.by_case.result (λ r. goal_tree r.now) c.args.cases.now c.case-item.result c.args.a c.args.b _ _ _
-    c.in-len1-up.len_at_least c.case-item.is c.in_ok-holds-in-len1-up.ensures c.in_ok-behind-in-len1-up.ensures c.by_case.ensures
+    c.in-len1-up.len_at_least c.case-item.is c.in_ok-holds-in-len1-up.ensures
+    c.in_ok-behind-in-len1-up.ensures c.by_case.ensures

@@ -22,7 +22,8 @@ returns c =
     let a = c.args.a in
     let b = c.args.b in
     let own = goal_tree c.in_ok-own.own.now in
-    IfOk-weaker c.unless_true.result (λ r. goal_tree r.now ≡ unless_true (map case_of (take c.args.number cases)) a b own)
+    IfOk-weaker c.unless_true.result (λ r. goal_tree r.now
+    ≡ unless_true (map case_of (take c.args.number cases)) a b own)
     (λ r. goal_tree r.now ≡ at_target (map case_of cases) (Case c.args.number) a b)
     (λ r. case_reached cases c.args.number c.index-cases-at.result a b own (goal_tree r.now) c.requires.number
     c.index-cases-at.is c.in_ok-own.ensures)

@@ -19,19 +19,19 @@ pub returns-clause-difference_sought : goal.returns-clause-difference_sought
 returns-clause-difference_sought c = λ f g k l v a b why declared names.
     let questions = c.questions_mean_the_interpreter.ensures in
     difference_sought questions.at_most questions.guard questions.allowed ask_form-guard_form ask_goal-if_allowed
-    c.tests_decide_their_facts.ensures.allowed questions.result questions.one_form c.transform_keeps_all_but_the_position.ensures
-    f g k l v a b declared names why
+    c.tests_decide_their_facts.ensures.allowed questions.result questions.one_form
+    c.transform_keeps_all_but_the_position.ensures f g k l v a b declared names why
 
 pub returns-clause-difference_fails : goal.returns-clause-difference_fails
 returns-clause-difference_fails c = λ f g k l v a b declared names.
     let questions = c.questions_mean_the_interpreter.ensures in
     difference_fails questions.at_most questions.guard questions.allowed ask_form-guard_form ask_goal-if_allowed
-    c.tests_decide_their_facts.ensures.allowed questions.result questions.one_form c.transform_keeps_all_but_the_position.ensures
-    f g k l v a b declared names
+    c.tests_decide_their_facts.ensures.allowed questions.result questions.one_form
+    c.transform_keeps_all_but_the_position.ensures f g k l v a b declared names
 
 pub returns-clause-difference_held : goal.returns-clause-difference_held
 returns-clause-difference_held c = λ f g k l v a b declared names.
     let questions = c.questions_mean_the_interpreter.ensures in
     difference_held questions.at_most questions.guard questions.allowed ask_form-guard_form ask_goal-if_allowed
-    c.tests_decide_their_facts.ensures.allowed questions.result questions.one_form c.transform_keeps_all_but_the_position.ensures
-    f g k l v a b declared names
+    c.tests_decide_their_facts.ensures.allowed questions.result questions.one_form
+    c.transform_keeps_all_but_the_position.ensures f g k l v a b declared names

@@ -8,12 +8,12 @@ use Rattle.ot_audit.proofs.reaching.reach_in.Goals as goal
 
 pub find-requires : goal.find-requires
 find-requires c =
-    subst (λ (t : GoalTree). IsSearchable (function_of c.args.rules.now) c.args.first c.args.second t) (sym c.in_ok-goal.ensures)
-    (c.goals_are_searchable.ensures.target (function_of c.args.rules.now) c.args.first c.args.second c.args.target
-    c.rules_are_valid.ensures c.requires.declared)
+    subst (λ (t : GoalTree). IsSearchable (function_of c.args.rules.now) c.args.first c.args.second t)
+    (sym c.in_ok-goal.ensures) (c.goals_are_searchable.ensures.target (function_of c.args.rules.now) c.args.first
+    c.args.second c.args.target c.rules_are_valid.ensures c.requires.declared)
 
 pub returns : goal.returns
 returns c =
     let f = function_of c.args.rules.now in
-    subst (λ (t : GoalTree). IfOk c.find.result (IsFoundIn f c.args.first c.args.second t c.args.budget)) c.in_ok-goal.ensures
-    c.find.ensures.found
+    subst (λ (t : GoalTree). IfOk c.find.result (IsFoundIn f c.args.first c.args.second t c.args.budget))
+    c.in_ok-goal.ensures c.find.ensures.found

@@ -12,7 +12,8 @@ returns-in_err-level-clause-judged g c =
     let f = function_of c.args.rules.now in
     rw (p.1, p.2)
     (answered g.F.Feed f c.args.feed.now c.read_low_header.new.feed c.in_err-level.field-0.0
-    (header_refused g.F.Feed f c.args.feed.now c.read_low_header.new.feed c.in_err-level.field-0.0 c.in_err-level.ensures.refused))
+    (header_refused g.F.Feed f c.args.feed.now c.read_low_header.new.feed c.in_err-level.field-0.0
+    c.in_err-level.ensures.refused))
 
 pub judge_behind-requires : goal.judge_behind-requires
 judge_behind-requires g c =
@@ -27,23 +28,26 @@ judge_behind-requires g c =
 -- the feed failed behind the first line, or the file ended there
 pub returns-in_err-judge_behind-clause-truncated : goal.returns-in_err-judge_behind-clause-truncated
 returns-in_err-judge_behind-clause-truncated g c =
-    let p = err_from_is_err_and c.from_residual-in_err-judge_behind.result c.from_residual-in_err-judge_behind.ensures.1 in
+    let p = err_from_is_err_and c.from_residual-in_err-judge_behind.result
+    c.from_residual-in_err-judge_behind.ensures.1 in
     rw (p.1, p.2) c.in_err-judge_behind.ensures.truncated
 
 pub returns-in_err-judge_behind-clause-failed : goal.returns-in_err-judge_behind-clause-failed
 returns-in_err-judge_behind-clause-failed g c =
-    let p = err_from_is_err_and c.from_residual-in_err-judge_behind.result c.from_residual-in_err-judge_behind.ensures.1 in
+    let p = err_from_is_err_and c.from_residual-in_err-judge_behind.result
+    c.from_residual-in_err-judge_behind.ensures.1 in
     rw (p.1, p.2)
     (λ failed. rose_behind c.read_low_header.ensures.kept.more_faults (c.in_err-judge_behind.ensures.failed failed))
 
 -- behind the first line the sections are refused
 pub returns-in_err-judge_behind-clause-judged : goal.returns-in_err-judge_behind-clause-judged
 returns-in_err-judge_behind-clause-judged g c =
-    let p = err_from_is_err_and c.from_residual-in_err-judge_behind.result c.from_residual-in_err-judge_behind.ensures.1 in
+    let p = err_from_is_err_and c.from_residual-in_err-judge_behind.result
+    c.from_residual-in_err-judge_behind.ensures.1 in
     rw (p.1, p.2)
-    (behind_refused g.F.Feed (function_of c.args.rules.now) c.args.feed.now c.judge_behind.new.feed c.in_ok-level.level c.in_ok-level.bound
-    c.in_ok-level.ensures.header.bounded c.read_low_header.new.feed c.in_ok-level.ensures.header.bytes c.in_err-judge_behind.field-0.0
-    c.in_err-judge_behind.ensures.judged)
+    (behind_refused g.F.Feed (function_of c.args.rules.now) c.args.feed.now c.judge_behind.new.feed c.in_ok-level.level
+    c.in_ok-level.bound c.in_ok-level.ensures.header.bounded c.read_low_header.new.feed
+    c.in_ok-level.ensures.header.bytes c.in_err-judge_behind.field-0.0 c.in_err-judge_behind.ensures.judged)
 
 -- behind the first line all sections came, and they are the certificate
 pub returns-clause-judged : goal.returns-clause-judged
@@ -53,7 +57,8 @@ returns-clause-judged g c =
     let bound = c.in_ok-level.bound in
     inr
     (behind_judged g.F.Feed f c.args.feed.now c.judge_behind.new.feed level bound c.in_ok-level.ensures.header.bounded
-    c.read_low_header.new.feed c.in_ok-level.ensures.header.bytes (c.low_certificates_are_sections.ensures.certificate f level bound) c.in_ok-judge_behind.ensures.judged)
+    c.read_low_header.new.feed c.in_ok-level.ensures.header.bytes
+    (c.low_certificates_are_sections.ensures.certificate f level bound) c.in_ok-judge_behind.ensures.judged)
 
 -- the feed is kept, whatever is returned
 pub returns-in_err-level-clause-kept : goal.returns-in_err-level-clause-kept

@@ -10,7 +10,8 @@ pub returns-in-None : goal.returns-in-None
 returns-in-None c more is =
     let text = low_header_text c.args.level c.args.bound in
     let line : c.deref.result.now ≡ text =
-    c.deref.ensures.value ∙ c.in_ok-write_low_header.ensures ∙ ap (λ (x : List ℕ). x ++ text) c.new-line.ensures.items in
+    c.deref.ensures.value ∙ c.in_ok-write_low_header.ensures
+    ∙ ap (λ (x : List ℕ). x ++ text) c.new-line.ensures.items in
     strip_prefix_is Decides-eqb c.deref.result.now c.args.front.now None c.in-None.ensures.cases more (line ∙ is)
 
 -- the bytes are the whole line
@@ -18,9 +19,11 @@ pub returns-in-Some-empty : goal.returns-in-Some-empty
 returns-in-Some-empty c =
     let text = low_header_text c.args.level c.args.bound in
     let line : c.deref.result.now ≡ text =
-    c.deref.ensures.value ∙ c.in_ok-write_low_header.ensures ∙ ap (λ (x : List ℕ). x ++ text) c.new-line.ensures.items in
+    c.deref.ensures.value ∙ c.in_ok-write_low_header.ensures
+    ∙ ap (λ (x : List ℕ). x ++ text) c.new-line.ensures.items in
     let rest = c.in-Some-empty.field-0 in
-    let told = strip_prefix_is Decides-eqb c.deref.result.now c.args.front.now (Some rest) c.in-Some-empty.ensures.cases in (
+    let told = strip_prefix_is Decides-eqb c.deref.result.now c.args.front.now (Some rest)
+    c.in-Some-empty.ensures.cases in (
       refl,
       refl,
       sym line ∙ told ∙ ap (λ (x : List ℕ). c.args.front.now ++ x) (none_left rest.now c.in-Some-empty.len_below)
@@ -31,7 +34,8 @@ pub returns : goal.returns
 returns c =
     let text = low_header_text c.args.level c.args.bound in
     let line : c.deref.result.now ≡ text =
-    c.deref.ensures.value ∙ c.in_ok-write_low_header.ensures ∙ ap (λ (x : List ℕ). x ++ text) c.new-line.ensures.items in
+    c.deref.ensures.value ∙ c.in_ok-write_low_header.ensures
+    ∙ ap (λ (x : List ℕ). x ++ text) c.new-line.ensures.items in
     let rest = c.in-Some.field-0 in
     let told = strip_prefix_is Decides-eqb c.deref.result.now c.args.front.now (Some rest) c.in-Some.ensures.cases in
     (rest.now, omega (arith, c.in-Some.len_at_least), sym line ∙ told)

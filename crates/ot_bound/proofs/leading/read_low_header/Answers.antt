@@ -1,4 +1,5 @@
-use Rattle.std.proofs.Common.{◌≡◌, ℕ, List, [], ◌∷◌, ◌++◌, length, length-append, refl, sym, ap, subst, ◌∙◌, arith, append_assoc}
+use Rattle.std.proofs.Common.{◌≡◌, ℕ, List, [], ◌∷◌, ◌++◌, length, length-append, refl, sym, ap, subst, ◌∙◌, arith}
+use Rattle.std.proofs.Common.{append_assoc}
 use Rattle.std.proofs.lemmas.List.{append-nil}
 use Rattle.ot_sections.specs.Feeding.{Yields}
 use Rattle.ot_bound.specs.declared.header.HeaderFit.TheVariants.{Other}
@@ -15,7 +16,12 @@ loop-line-init g c =
       front = subst IsFrontOfHeader (sym none) none_is_front;
       bytes = λ all rest may. subst (λ (l : List ℕ). Yields g.F.Feed c.args.feed.now all (l ++ rest)) (sym none) may;
       fewer = omega (arith, ap length none);
-      kept = record { more_faults = omega arith; no_more_bytes = omega arith; same_object = refl; still_keeps = λ before h. h };
+      kept = record {
+        more_faults = omega arith;
+        no_more_bytes = omega arith;
+        same_object = refl;
+        still_keeps = λ before h. h;
+      };
     }
 
 -- the bytes that came are a first line

@@ -8,7 +8,8 @@ abbrev pub invariant-loop-line : goal.invariant-loop-line
 invariant-loop-line g l = record {
   front : IsFrontOfHeader l.line.items;
   bytes :
-      (all : Whole) (rest : List ℕ) → Yields g.F.Feed l.feed all rest → Yields g.F.Feed l.fn.feed all (l.line.items ++ rest);
+      (all : Whole) (rest : List ℕ) → Yields g.F.Feed l.feed all rest
+      → Yields g.F.Feed l.fn.feed all (l.line.items ++ rest);
   fewer : g.F.Feed.bound l.feed + length l.line.items ≤ g.F.Feed.bound l.fn.feed;
   kept : IsKeptFeed g.F.Feed.faults g.F.Feed.bound g.F.Feed.held g.F.Feed.keeps l.fn.feed l.feed;
 }

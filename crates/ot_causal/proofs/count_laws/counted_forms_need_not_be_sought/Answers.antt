@@ -1,4 +1,5 @@
-use Rattle.ot_causal.proofs.Counted.{AreCounted-counted, AreCounted-count_sought, AreCounted-newer, count_sought-counted, is_among-parts}
+use Rattle.ot_causal.proofs.Counted.{AreCounted-counted, AreCounted-count_sought, AreCounted-newer}
+use Rattle.ot_causal.proofs.Counted.{count_sought-counted, is_among-parts}
 use Rattle.ot_causal.proofs.Sought.{count_sought-append}
 use Rattle.ot_causal.proofs.count_laws.counted_forms_need_not_be_sought.Goals as goal
 

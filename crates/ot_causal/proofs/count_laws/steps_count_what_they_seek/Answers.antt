@@ -1,4 +1,5 @@
-use Rattle.ot_causal.proofs.StepCounts.{counted-other, all_counted-changed, counted-makes, all_counted-makes, counted-integrates}
+use Rattle.ot_causal.proofs.StepCounts.{counted-other, all_counted-changed, counted-makes, all_counted-makes}
+use Rattle.ot_causal.proofs.StepCounts.{counted-integrates}
 use Rattle.ot_causal.proofs.count_laws.steps_count_what_they_seek.Goals as goal
 
 pub returns-clause-made : goal.returns-clause-made

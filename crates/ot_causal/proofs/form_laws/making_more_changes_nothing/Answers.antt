@@ -1,5 +1,5 @@
-use Rattle.ot_causal.proofs.Frames.{IsNext-extended, IsClosed-extended, IsClosed-among_made, newest_open-extended, form-extended, state-extended}
-use Rattle.ot_causal.proofs.Frames.{sought-extended, counted-extended}
+use Rattle.ot_causal.proofs.Frames.{IsNext-extended, IsClosed-extended, IsClosed-among_made, newest_open-extended}
+use Rattle.ot_causal.proofs.Frames.{form-extended, state-extended, sought-extended, counted-extended}
 use Rattle.ot_causal.proofs.form_laws.making_more_changes_nothing.Goals as goal
 
 pub returns-clause-next : goal.returns-clause-next

@@ -6,4 +6,5 @@ pub returns-clause-made : goal.returns-clause-made
 returns-clause-made c = AreMade-closed
 
 pub returns-clause-few : goal.returns-clause-few
-returns-clause-few c = λ past l closed. length-below past.count l (IsDistinct-closed past l closed) (AreMade-closed past l closed).at
+returns-clause-few c =
+    λ past l closed. length-below past.count l (IsDistinct-closed past l closed) (AreMade-closed past l closed).at

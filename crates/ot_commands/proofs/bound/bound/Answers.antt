@@ -9,4 +9,5 @@ returns-clause-ok g c = c.reply_to_both.ensures.ok
 pub returns-clause-given : goal.returns-clause-given
 returns-clause-given g c =
     nothing_more (g.H.Shelf.reads c.args.shelf.now) (g.H.Shelf.reads c.reply_to_both.new.shelf)
-    (bound_facts c.args.function.now c.args.certificate.now).opens _ c.reply_to_both.result c.reply_to_both.ensures.given
+    (bound_facts c.args.function.now c.args.certificate.now).opens _ c.reply_to_both.result
+    c.reply_to_both.ensures.given

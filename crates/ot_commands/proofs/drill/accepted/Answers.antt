@@ -21,6 +21,6 @@ unreachable-requires c =
 pub unreachable-requires-in-Err-Refused : goal.unreachable-requires-in-Err-Refused
 unreachable-requires-in-Err-Refused c =
     never_refused _ _
-    (subst (λ (e : JudgeError). IsWant (Err e) ⊎ (◌≡◌ {A = Result Level JudgeError} (Err e) (Ok Tp2))) c.in-Err-Refused.field-0-is
-    (subst (λ (r : Result Level JudgeError). IsWant r ⊎ (r ≡ Ok Tp2)) c.in-Err-Refused.is
+    (subst (λ (e : JudgeError). IsWant (Err e) ⊎ (◌≡◌ {A = Result Level JudgeError} (Err e) (Ok Tp2)))
+    c.in-Err-Refused.field-0-is (subst (λ (r : Result Level JudgeError). IsWant r ⊎ (r ≡ Ok Tp2)) c.in-Err-Refused.is
     (c.check_all.ensures.only c.args.certificate.now (Ok Tp2) c.new.ensures.left c.requires.certificate)))

@@ -15,7 +15,8 @@ returns-clause-agree c =
     let is : v.function ≡ _ = c.in_ok-played.ensures.function in
     let laws = c.drill_functions_have_both_properties.ensures in
     let pair : IsFirstPair 1 (map site_end_of v.sites) c.first_pair.result =
-    subst (λ (l : List SiteEnd). IsFirstPair 1 l c.first_pair.result) (c.as_slice.ensures ∙ c.in_ok-ends.ensures) c.first_pair.ensures in
+    subst (λ (l : List SiteEnd). IsFirstPair 1 l c.first_pair.result) (c.as_slice.ensures
+    ∙ c.in_ok-ends.ensures) c.first_pair.ensures in
     none_differ v.sites c.first_pair.result
     (c.sites_agree.ensures (subst (λ (f : Function). HasTp1 f) (sym is) (laws.tp1 c.args.number))
     (subst (λ (f : Function). HasTp2 f) (sym is) (laws.tp2 c.args.number))

@@ -12,5 +12,5 @@ write_explained-requires c =
     let is = c.in_ok-counter.ensures in
     let leads = literals_lead c.args.why (plan_of f ob) c.args.answers.now c.requires.leads in
     rw (is.read.level, is.read.doc, is.read.ops)
-    (c.failing_ends_have_counterexamples.ensures.broken f ob (answered_by c.args.answers.now) c.args.why is.values c.rules_are_valid.ensures
-    c.requires.declared leads is.least)
+    (c.failing_ends_have_counterexamples.ensures.broken f ob (answered_by c.args.answers.now) c.args.why is.values
+    c.rules_are_valid.ensures c.requires.declared leads is.least)

@@ -13,13 +13,15 @@ returns-in-Err-clause-ok g c = inl (IfErr-at_err _ c.in-Err.is c.in_ok-bytes.ens
 pub returns-in-Err-clause-given : goal.returns-in-Err-clause-given
 returns-in-Err-clause-given g c =
     let new = g.H.Shelf.reads c.read_file.new.shelf in
-    text_given (g.H.Shelf.reads c.args.shelf.now) new c.args.function.now (IsReplyToText c.args.level) c.read_file.ensures.read c.in-Err.reply
-    (λ told agrees. inl (long_told told new.bytes agrees files.Function c.in-Err.reply (IfErr-at_err _ c.in-Err.is c.in_ok-bytes.ensures.given_replied)))
+    text_given (g.H.Shelf.reads c.args.shelf.now) new c.args.function.now (IsReplyToText c.args.level)
+    c.read_file.ensures.read c.in-Err.reply
+    (λ told agrees. inl (long_told told new.bytes agrees files.Function c.in-Err.reply
+    (IfErr-at_err _ c.in-Err.is c.in_ok-bytes.ensures.given_replied)))
 
 pub returns-in-Ok-clause-ok : goal.returns-in-Ok-clause-ok
 returns-in-Ok-clause-ok g c =
-    file_replies files.Function c.in-Ok.bytes.items c.deref.result.now c.deref.ensures.value (IsReplyToText c.args.level)
-    c.reply_to_text.result c.reply_or_stop.result c.reply_to_text.ensures c.reply_or_stop.ensures.ok
+    file_replies files.Function c.in-Ok.bytes.items c.deref.result.now c.deref.ensures.value (IsReplyToText
+    c.args.level) c.reply_to_text.result c.reply_or_stop.result c.reply_to_text.ensures c.reply_or_stop.ensures.ok
     (g.H.Shelf.holds c.args.shelf.now c.args.function.now) (IfOk-at_ok _ c.in-Ok.is c.in_ok-bytes.ensures.ok)
 
 pub returns-in-Ok-clause-given : goal.returns-in-Ok-clause-given

@@ -8,7 +8,14 @@ pub returns : goal.returns
 returns c =
     let f = function_of c.args.rules.now in
     let came = c.in_ok-settlement in
-    IfOk-weaker c.explain_settled.result (ExplainsSettled f c.args.level came.settlement.settled) (IsReplyToUnproved f c.args.level)
-    (λ r explains.
-    (came.settlement.settled, came.settlement.asked, came.settlement.over, came.settlement.written, came.ensures.settled, came.ensures.spent, explains))
-    c.explain_settled.ensures
+    IfOk-weaker c.explain_settled.result (ExplainsSettled f c.args.level came.settlement.settled)
+    (IsReplyToUnproved f c.args.level)
+    (λ r explains. (
+      came.settlement.settled,
+      came.settlement.asked,
+      came.settlement.over,
+      came.settlement.written,
+      came.ensures.settled,
+      came.ensures.spent,
+      explains,
+    )) c.explain_settled.ensures

@@ -9,4 +9,5 @@ returns-in-Err-clause-refused c r same =
 
 pub returns-in-Err-clause-steady : goal.returns-in-Err-clause-steady
 returns-in-Err-clause-steady c f r same =
-    not_moved-steady c.args.number c.in-Err.why r (c.in-Err.ensures.never_stuck f.tp1 f.chars) (c.not_moved.ensures r (halt_of _ _ same))
+    not_moved-steady c.args.number c.in-Err.why r (c.in-Err.ensures.never_stuck f.tp1 f.chars)
+    (c.not_moved.ensures r (halt_of _ _ same))

@@ -18,8 +18,8 @@ returns-clause-steady c f =
     let found = c.first_apart-differ.result in
     let logged = c.logged-logged.result in
     none_is_zero found
-    (none_apart hub (length hub.server.log) hub.server.doc found (c.clients_follow_the_log.ensures f.tp1 f.chars).one_document
-    (subst (λ (n : ℕ). IsFirstApart n hub.server.doc 1 (map client_end hub.clients) found) c.logged-logged.ensures
-    (subst (λ (d : List Cell). IsFirstApart logged d 1 (map client_end hub.clients) found) (c.in_ok-doc.ensures ∙ c.server.ensures)
-    (subst (λ (l : List ClientEnd). IsFirstApart logged c.in_ok-doc.doc 1 l found) (c.as_slice.ensures ∙ c.in_ok-ends.ensures)
-    c.first_apart-differ.ensures))))
+    (none_apart hub (length hub.server.log) hub.server.doc found (c.clients_follow_the_log.ensures f.tp1
+    f.chars).one_document (subst (λ (n : ℕ). IsFirstApart n hub.server.doc 1 (map client_end hub.clients) found)
+    c.logged-logged.ensures (subst (λ (d : List Cell). IsFirstApart logged d 1 (map client_end hub.clients) found)
+    (c.in_ok-doc.ensures ∙ c.server.ensures) (subst (λ (l : List ClientEnd). IsFirstApart logged c.in_ok-doc.doc 1 l
+    found) (c.as_slice.ensures ∙ c.in_ok-ends.ensures) c.first_apart-differ.ensures))))

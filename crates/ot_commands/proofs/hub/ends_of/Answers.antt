@@ -9,4 +9,5 @@ loop-place-preserved c =
     let end = c.in_ok-end_at.field-0 in
     c.in_ok-push.ensures.ok
     ∙ ap (λ l. l ++ end ∷ []) c.loop-place.invariant
-    ∙ next_end (hub_view_of c.args.hub.now).clients place end (omega (arith, c.loop-place-test.true, c.requires)) c.in_ok-end_at.ensures
+    ∙ next_end (hub_view_of c.args.hub.now).clients place end
+    (omega (arith, c.loop-place-test.true, c.requires)) c.in_ok-end_at.ensures

@@ -8,7 +8,8 @@ use Rattle.ot_commands.proofs.hub.run_events.Given as goal
 abbrev pub invariant-loop-number : goal.invariant-loop-number
 invariant-loop-number l = record {
   is_open : (hub_view_of l.hub).is_open ≡ true;
-  rest : (r : Reply) → Runs (hub_view_of l.hub) l.number (drop l.number l.events) r → Runs (hub_view_of l.fn.hub) 0 l.fn.events r;
+  rest : (r : Reply) → Runs (hub_view_of l.hub) l.number (drop l.number l.events) r
+      → Runs (hub_view_of l.fn.hub) 0 l.fn.events r;
   clients : length (hub_view_of l.hub).clients ≡ length (hub_view_of l.fn.hub).clients;
   function : (hub_view_of l.hub).function ≡ (hub_view_of l.fn.hub).function;
 }

@@ -38,8 +38,8 @@ returns-in-Ok-clause-reply c =
     let script = c.args.script.now in
     IfOk-weaker c.ended.result (TellsHub (hub_view_of c.run_events.new.hub)) (IsReplyToHubScript f (Ok script))
     (λ r tells. subst (λ (h : HubData). Runs h 0 script.events r) c.in_ok-hub.ensures
-    (subst (λ (l : List HubEvent). Runs (hub_view_of c.in_ok-hub.hub) 0 l r) c.as_slice.ensures (c.in-Ok.ensures.ok r tells)))
-    c.ended.ensures.tells
+    (subst (λ (l : List HubEvent). Runs (hub_view_of c.in_ok-hub.hub) 0 l r) c.as_slice.ensures
+    (c.in-Ok.ensures.ok r tells))) c.ended.ensures.tells
 
 pub returns-in-Ok-clause-steady : goal.returns-in-Ok-clause-steady
 returns-in-Ok-clause-steady c agree =

@@ -5,8 +5,8 @@ use Rattle.ot_commands.proofs.replay.make.Goals as goal
 pub returns-in-Err-clause-refused : goal.returns-in-Err-clause-refused
 returns-in-Err-clause-refused c r same =
     let told = c.in-Err.ensures in
-    not_made (view_of c.args.session.now) c.args.number c.args.site c.args.op c.in-Err.why r told.no_site told.wrong_site told.wrong_kind
-    told.not_enabled told.full (c.not_made.ensures r (halt_of _ _ same))
+    not_made (view_of c.args.session.now) c.args.number c.args.site c.args.op c.in-Err.why r told.no_site
+    told.wrong_site told.wrong_kind told.not_enabled told.full (c.not_made.ensures r (halt_of _ _ same))
 
 pub returns-in-Err-clause-steady : goal.returns-in-Err-clause-steady
 returns-in-Err-clause-steady c r same =

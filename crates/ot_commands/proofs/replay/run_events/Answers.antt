@@ -27,7 +27,8 @@ returns-in_err-run_event-clause-refused c r is =
 
 pub returns-in_err-run_event-clause-steady : goal.returns-in_err-run_event-clause-steady
 returns-in_err-run_event-clause-steady c agree r is =
-    c.in_err-run_event.ensures.steady (subst (λ (f : Function). MakesSitesAgree f) (sym c.loop-number.invariant.function) agree) r
+    c.in_err-run_event.ensures.steady (subst (λ (f : Function). MakesSitesAgree f)
+    (sym c.loop-number.invariant.function) agree) r
     (passed_on c.from_residual.result c.in_err-run_event.field-0.0 (Refused r) c.from_residual.ensures.1 is)
 
 -- one event more was done

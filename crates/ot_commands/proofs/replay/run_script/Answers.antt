@@ -43,7 +43,8 @@ returns-in-Ok-clause-reply c =
 pub returns-in-Ok-clause-steady : goal.returns-in-Ok-clause-steady
 returns-in-Ok-clause-steady c agree =
     c.ended.ensures.steady
-    (subst (λ (f : Function). MakesSitesAgree f) (sym (c.in-Ok.ensures.function ∙ c.in_ok-session.ensures.function)) agree)
+    (subst (λ (f : Function). MakesSitesAgree f)
+    (sym (c.in-Ok.ensures.function ∙ c.in_ok-session.ensures.function)) agree)
 
 pub returns-in-Err-Refused-clause-reply : goal.returns-in-Err-Refused-clause-reply
 returns-in-Err-Refused-clause-reply c =
@@ -57,5 +58,5 @@ returns-in-Err-Refused-clause-reply c =
 
 pub returns-in-Err-Refused-clause-steady : goal.returns-in-Err-Refused-clause-steady
 returns-in-Err-Refused-clause-steady c agree =
-    c.in-Err-Refused.ensures.steady (subst (λ (f : Function). MakesSitesAgree f) (sym c.in_ok-session.ensures.function) agree)
-    c.in-Err-Refused.reply (ap (λ (h : Halt). Err h) c.in-Err-Refused.field-0-is)
+    c.in-Err-Refused.ensures.steady (subst (λ (f : Function). MakesSitesAgree f) (sym c.in_ok-session.ensures.function)
+    agree) c.in-Err-Refused.reply (ap (λ (h : Halt). Err h) c.in-Err-Refused.field-0-is)

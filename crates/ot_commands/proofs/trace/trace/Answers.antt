@@ -16,7 +16,8 @@ pub returns-in-Case-clause-given : goal.returns-in-Case-clause-given
 returns-in-Case-clause-given g c =
     rw c.in-Case.is
     (nothing_more (g.H.Shelf.reads c.args.shelf.now) (g.H.Shelf.reads c.reply_to_both.new.shelf)
-    (trace_facts traces.Case c.args.function.now c.args.file.now).opens _ c.reply_to_both.result c.reply_to_both.ensures.given)
+    (trace_facts traces.Case c.args.function.now c.args.file.now).opens _ c.reply_to_both.result
+    c.reply_to_both.ensures.given)
 
 pub returns-in-Session-clause-ok : goal.returns-in-Session-clause-ok
 returns-in-Session-clause-ok g c = rw c.in-Session.is c.reply_to_both-in-Session.ensures.ok

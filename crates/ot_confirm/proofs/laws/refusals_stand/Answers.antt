@@ -1,10 +1,11 @@
 use Rattle.fn_rules.specs.Obligations.{obligations_of}
 use Rattle.start_laws.specs.Starts.{compare_starts}
-use Rattle.marked_goals.specs.Marking.{marked_plan}
+use Rattle.start_laws.specs.Marking.{marked_plan}
 use Rattle.ot_confirm.specs.Judgement.{judgement_of}
 use Rattle.ot_confirm.proofs.laws.refusals_stand.Goals as goal
 
 pub returns : goal.returns
 unfolding judgement_of
 returns c f bytes more offset cause refused early =
-    c.refusals_stand.ensures compare_starts (marked_plan f) (obligations_of f.head) bytes more offset cause refused early
+    c.refusals_stand.ensures compare_starts (marked_plan f) (obligations_of f.head) bytes more
+    offset cause refused early

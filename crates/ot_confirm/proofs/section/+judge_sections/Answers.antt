@@ -4,7 +4,7 @@ use Rattle.proof_sections.specs.Judgement.{Judges, sections_judged}
 use Rattle.fn_rules.specs.Obligations.{is_obligation}
 use Rattle.fn_rules.specs.Rules.{function_of}
 use Rattle.start_laws.specs.Starts.{compare_starts}
-use Rattle.marked_goals.specs.Marking.{marked_plan}
+use Rattle.start_laws.specs.Marking.{marked_plan}
 use Rattle.proof_sections.proofs.Sections.{sections_not, sections_then}
 use Rattle.ot_confirm.proofs.Listed.{all_parts, sections_empty}
 use Rattle.ot_confirm.proofs.section.+judge_sections.Goals as goal
@@ -26,8 +26,8 @@ returns-in-Err t c =
     let plan = marked_plan (function_of c.args.rules.now) in
     subst
     (λ (n : List ObName).
-    Judges c.args.bytes.now (sections_judged compare_starts plan n (length c.args.bytes.now) (drop c.args.at c.args.bytes.now))
-    (Err c.in-Err.end))
+    Judges c.args.bytes.now (sections_judged compare_starts plan n (length c.args.bytes.now)
+    (drop c.args.at c.args.bytes.now)) (Err c.in-Err.end))
     (sym are)
     (sections_not compare_starts plan c.args.bytes.now c.args.at c.in-Some.name.now c.in-Some.others.now c.in-Err.end
     c.in-Err.ensures)
@@ -36,5 +36,6 @@ pub returns-in-Ok : goal.returns-in-Ok
 returns-in-Ok t c =
     let are : c.args.names.now ≡ c.in-Some.name.now ∷ c.in-Some.others.now = c.in-Some.ensures.cases.0 in
     rw are
-    (sections_then compare_starts (marked_plan (function_of c.args.rules.now)) c.args.bytes.now c.args.at c.in-Some.name.now
+    (sections_then compare_starts (marked_plan (function_of c.args.rules.now)) c.args.bytes.now
+    c.args.at c.in-Some.name.now
     c.in-Some.others.now c.in-Ok.next c.judge_sections.result c.in-Ok.ensures c.judge_sections.ensures)

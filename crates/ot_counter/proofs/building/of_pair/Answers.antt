@@ -12,8 +12,8 @@ document_way-requires c =
     let head = (function_of c.args.rules.now).head in
     let kinds = pair_kinds head c.args.k c.args.l c.requires.declared in
     let both =
-    two_enabled (function_of c.args.rules.now) _ _ _ _ _ _ c.in_ok-doc.ensures c.op_at-a.ensures.value c.op_at-b.ensures.value
-    c.requires.concurrent in
+    two_enabled (function_of c.args.rules.now) _ _ _ _ _ _ c.in_ok-doc.ensures c.op_at-a.ensures.value
+    c.op_at-b.ensures.value c.requires.concurrent in
     record {
       enabled = both.0;
       first_declared = for_kind head c.args.k c.op_at-a.result kinds.0 c.op_at-a.ensures.kind;
@@ -28,8 +28,8 @@ document_way-requires-2 c =
     let head = (function_of c.args.rules.now).head in
     let kinds = pair_kinds head c.args.k c.args.l c.requires.declared in
     let both =
-    two_enabled (function_of c.args.rules.now) _ _ _ _ _ _ c.in_ok-doc.ensures c.op_at-a.ensures.value c.op_at-b.ensures.value
-    c.requires.concurrent in
+    two_enabled (function_of c.args.rules.now) _ _ _ _ _ _ c.in_ok-doc.ensures c.op_at-a.ensures.value
+    c.op_at-b.ensures.value c.requires.concurrent in
     record {
       enabled = both.1;
       first_declared = for_kind head c.args.l c.op_at-b.result kinds.1 c.op_at-b.ensures.kind;

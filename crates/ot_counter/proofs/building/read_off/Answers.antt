@@ -17,8 +17,8 @@ of_pair-requires c =
     record {
       declared = subst (λ ob. IsTrue (is_obligation head ob)) c.in-Pair.is c.requires.declared;
       concurrent =
-          subst (λ ob. AreConcurrent (function_of c.args.rules.now) (document_at v c.args.why) (ops_at v ob)) c.in-Pair.is
-          c.requires.concurrent;
+          subst (λ ob. AreConcurrent (function_of c.args.rules.now) (document_at v c.args.why) (ops_at v ob))
+          c.in-Pair.is c.requires.concurrent;
       first = parts.0;
       second = parts.1;
       cells = c.requires.cells;
@@ -27,7 +27,8 @@ of_pair-requires c =
 pub of_triple-requires : goal.of_triple-requires
 of_triple-requires c =
     let head = (function_of c.args.rules.now).head in
-    let parts = parts_of_triple c.args.values.now c.args.ob c.requires.parts c.in-Triple.k c.in-Triple.l c.in-Triple.m c.in-Triple.is in
+    let parts = parts_of_triple c.args.values.now c.args.ob c.requires.parts c.in-Triple.k c.in-Triple.l
+    c.in-Triple.m c.in-Triple.is in
     record {
       declared = subst (λ ob. IsTrue (is_obligation head ob)) c.in-Triple.is c.requires.declared;
       first = parts.0;

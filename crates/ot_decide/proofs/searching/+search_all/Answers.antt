@@ -29,8 +29,8 @@ written_behind before line text end front bytes is front_is =
 pub search_ob-requires : goal.search_ob-requires
 search_ob-requires t c = record {
   listed =
-      (all_split (is_obligation (function_of c.args.rules.now).head) c.args.names.now c.in-Some.ob.now c.in-Some.others.now
-      c.in-Some.ensures.cases.0 c.requires.listed).0;
+      (all_split (is_obligation (function_of c.args.rules.now).head) c.args.names.now c.in-Some.ob.now
+      c.in-Some.others.now c.in-Some.ensures.cases.0 c.requires.listed).0;
   bounded = c.requires.bounded;
   empty = ap (λ t. t.tokens) c.in_ok-tree.ensures;
 }
@@ -40,14 +40,15 @@ end_ob-requires-clause-spellable t c =
     let f = function_of c.args.rules.now in
     let plan = plan_below f c.args.below in
     searched_spellable f.head plan c.in-Some.ob.now c.args.budget c.in-Yes.asked c.in-Yes.tree c.search_ob.ensures.short
-    (subst (λ (o : Outcome Why). IsDecided (plan c.in-Some.ob.now) c.args.budget o) c.in-Yes.is c.in_ok-tree-2.ensures.decides)
+    (subst (λ (o : Outcome Why). IsDecided (plan c.in-Some.ob.now) c.args.budget o) c.in-Yes.is
+    c.in_ok-tree-2.ensures.decides)
 
 pub search_all-requires : goal.search_all-requires
 search_all-requires t c = (
   search rules,
   (
-    (all_split (is_obligation (function_of c.args.rules.now).head) c.args.names.now c.in-Some.ob.now c.in-Some.others.now
-        c.in-Some.ensures.cases.0 c.requires.listed).1,
+    (all_split (is_obligation (function_of c.args.rules.now).head) c.args.names.now c.in-Some.ob.now
+        c.in-Some.others.now c.in-Some.ensures.cases.0 c.requires.listed).1,
     c.requires.bounded,
   ),
 )
@@ -61,10 +62,12 @@ returns-in_ok-bytes-in-Yes t c =
     let middle = c.in_ok-bytes-in-Yes.field-0.items in
     let after = c.search_all.new.bytes.items in
     let searched =
-    subst (λ (o : Outcome Why). IsDecided (plan c.in-Some.ob.now) c.args.budget o) c.in-Yes.is c.in_ok-tree-2.ensures.decides in
+    subst (λ (o : Outcome Why). IsDecided (plan c.in-Some.ob.now) c.args.budget o) c.in-Yes.is
+    c.in_ok-tree-2.ensures.decides in
     let line = ob_text c.in-Some.ob.now in
     let begun : c.in_ok-tree.tree.front ≡ before ++ line =
-    ap (λ (x : Written). x.front) c.in_ok-tree.ensures ∙ ap (λ (v : Vec ℕ Global). v.items ++ line) c.replace.ensures.value in
+    ap (λ (x : Written). x.front) c.in_ok-tree.ensures
+    ∙ ap (λ (v : Vec ℕ Global). v.items ++ line) c.replace.ensures.value in
     let stands : c.in-Yes.tree.front ≡ c.in_ok-tree.tree.front =
     subst (λ (o : Outcome Why). StandsBehind c.in_ok-tree.tree.front o) c.in-Yes.is c.in_ok-tree-2.ensures.front in
     let written : middle ≡ before ++ section_text c.in-Some.ob.now c.in-Yes.tree.tokens =
@@ -76,8 +79,8 @@ returns-in_ok-bytes-in-Yes t c =
           IfOk-weaker c.search_all.result
           (AreSettled f.head plan c.in-Some.others.now (c.args.budget - c.in-Yes.asked) middle after)
           (AreSettled f.head plan (c.in-Some.ob.now ∷ c.in-Some.others.now) c.args.budget before after)
-          (λ v. settled_behind f.head plan c.in-Some.ob.now c.in-Some.others.now c.args.budget c.in-Yes.asked c.in-Yes.tree
-          c.search_ob.ensures.short searched before middle after v written)
+          (λ v. settled_behind f.head plan c.in-Some.ob.now c.in-Some.others.now c.args.budget c.in-Yes.asked
+          c.in-Yes.tree c.search_ob.ensures.short searched before middle after v written)
           c.search_all.ensures.settled;
     })
 
@@ -97,7 +100,8 @@ returns-in-No t c =
           (sym c.in-Some.ensures.cases.0)
           (settled_refuted f.head plan c.in-Some.ob.now c.in-Some.others.now c.args.budget c.in-No.answers c.in-No.why
           c.args.bytes.now.items c.args.bytes.now.items listed
-          (subst (λ (o : Outcome Why). IsDecided (plan c.in-Some.ob.now) c.args.budget o) c.in-No.is c.in_ok-tree-2.ensures.decides));
+          (subst (λ (o : Outcome Why). IsDecided (plan c.in-Some.ob.now) c.args.budget o) c.in-No.is
+          c.in_ok-tree-2.ensures.decides));
     }
 
 -- the obligation has more questions than are left, and so have all together
@@ -108,10 +112,11 @@ returns-in-Spent t c =
     record {
       settled =
           subst
-          (λ (n : List ObName). AreSettled f.head plan n c.args.budget c.args.bytes.now.items c.args.bytes.now.items search.Spent)
-          (sym c.in-Some.ensures.cases.0)
-          (settled_spent f.head plan c.in-Some.ob.now c.in-Some.others.now c.args.budget c.args.bytes.now.items c.args.bytes.now.items
-          (c.obligations_have_one_question_list.ensures.some_below f c.args.below c.in-Some.others.now c.rules_are_valid.ensures
-          c.requires.bounded)
-          (subst (λ (o : Outcome Why). IsDecided (plan c.in-Some.ob.now) c.args.budget o) c.in-Spent.is c.in_ok-tree-2.ensures.decides));
+          (λ (n : List ObName). AreSettled f.head plan n c.args.budget c.args.bytes.now.items c.args.bytes.now.items
+          search.Spent) (sym c.in-Some.ensures.cases.0)
+          (settled_spent f.head plan c.in-Some.ob.now c.in-Some.others.now c.args.budget c.args.bytes.now.items
+          c.args.bytes.now.items (c.obligations_have_one_question_list.ensures.some_below f c.args.below
+          c.in-Some.others.now c.rules_are_valid.ensures c.requires.bounded)
+          (subst (λ (o : Outcome Why). IsDecided (plan c.in-Some.ob.now) c.args.budget o) c.in-Spent.is
+          c.in_ok-tree-2.ensures.decides));
     }

@@ -9,14 +9,15 @@ use Rattle.ot_decide.proofs.searching.search_behind.Goals as goal
 pub new-asker-requires : goal.new-asker-requires
 new-asker-requires g c =
     let parts = fine_behind (g.A.Asker.name_count c.args.inner) c.in-Some.lit (g.A.Asker.root c.args.inner)
-    (subst (λ (o : Option Lit). IsFine (g.A.Asker.name_count c.args.inner) (plan_behind o (g.A.Asker.root c.args.inner))) c.in-Some.is
-    c.requires.fine) in
+    (subst (λ (o : Option Lit). IsFine (g.A.Asker.name_count c.args.inner)
+    (plan_behind o (g.A.Asker.root c.args.inner))) c.in-Some.is c.requires.fine) in
     record { premise = parts.premise; literals = parts.literals; paths = parts.paths }
 
 pub returns-in-None-clause-decides : goal.returns-in-None-clause-decides
 returns-in-None-clause-decides g c =
     subst (λ p. IfOk c.prove_behind.result (λ o. IsDecided p c.args.budget o))
-    (sym (ap (λ (o : Option Lit). plan_behind o (g.A.Asker.root c.args.inner)) c.in-None.is)) c.prove_behind.ensures.decides
+    (sym (ap (λ (o : Option Lit). plan_behind o (g.A.Asker.root c.args.inner)) c.in-None.is))
+    c.prove_behind.ensures.decides
 
 pub returns-in-None-clause-front : goal.returns-in-None-clause-front
 returns-in-None-clause-front g c = c.prove_behind.ensures.front

@@ -11,7 +11,7 @@ use Rattle.ot_paths.specs.Given.{own_plan}
 use Rattle.ot_prove.specs.Outcomes.{IsDecided}
 use Rattle.ot_sections.specs.Stands.{plan_behind}
 use Rattle.ot_sections.specs.declared.premise.TheConstants.{MAX_BOUND}
-use Rattle.search_places.specs.declared.split.TheConstants.{MAX_NAMES}
+use Rattle.ask_core.specs.declared.asker.TheConstants.{MAX_NAMES}
 use Rattle.ot_decide.specs.Below.{IsBound}
 use Rattle.ot_decide.proofs.searching.search_in.Goals as goal
 
@@ -37,24 +37,28 @@ search_behind-requires c =
     let fine : IsFine (name_count ob) (plan_behind premise (plan_of f ob)) =
     subst (λ (p : Plan Why). IsFine (name_count ob) p) (sym (c.premise_below.ensures.plan f ob))
     (c.shorter_plans_keep_limits.ensures f c.args.below ob c.rules_are_valid.ensures c.requires.bounded) in
-    let of_own : IsFine (name_count ob) (plan_behind premise (own_plan (function_of asker.rules.now) asker.ob asker.goal)) =
+    let of_own : IsFine (name_count ob)
+    (plan_behind premise (own_plan (function_of asker.rules.now) asker.ob asker.goal)) =
     subst (λ (p : Plan Why). IsFine (name_count ob) (plan_behind premise p)) (sym own) fine in
     record {
       empty = c.requires.empty;
       few = few_names asker.ob;
       fine =
           subst
-          (λ (o : ObName). IsFine (name_count o) (plan_behind premise (own_plan (function_of asker.rules.now) asker.ob asker.goal)))
-          (sym c.new-asker.ensures.obligation) of_own;
+          (λ (o : ObName). IsFine (name_count o) (plan_behind premise
+          (own_plan (function_of asker.rules.now) asker.ob asker.goal))) (sym c.new-asker.ensures.obligation) of_own;
     }
 
 pub returns : goal.returns
 returns c =
     let f = function_of c.args.rules.now in
-    let own : plan_behind c.premise_below.result (own_plan (function_of c.new-asker.result.rules.now) c.new-asker.result.ob c.new-asker.result.goal)
+    let own : plan_behind c.premise_below.result
+    (own_plan (function_of c.new-asker.result.rules.now) c.new-asker.result.ob c.new-asker.result.goal)
     ≡ plan_below f c.args.below c.args.ob =
-    ap (λ (p : Plan Why). plan_behind c.premise_below.result p) c.new-asker.ensures.root ∙ c.premise_below.ensures.plan f c.args.ob in
+    ap (λ (p : Plan Why). plan_behind c.premise_below.result p) c.new-asker.ensures.root
+    ∙ c.premise_below.ensures.plan f c.args.ob in
     record {
-      decides = subst (λ (p : Plan Why). IfOk c.search_behind.result (IsDecided p c.args.budget)) own c.search_behind.ensures.decides;
+      decides = subst (λ (p : Plan Why). IfOk c.search_behind.result (IsDecided p c.args.budget)) own
+          c.search_behind.ensures.decides;
       front = c.search_behind.ensures.front;
     }

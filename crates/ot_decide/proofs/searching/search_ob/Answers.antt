@@ -8,7 +8,7 @@ pub returns : goal.returns
 returns c = record {
   decides = c.search_in.ensures.decides;
   short =
-      (c.shorter_plans_keep_limits.ensures (function_of c.args.rules.now) c.args.below c.args.ob c.rules_are_valid.ensures
-      c.requires.bounded).paths;
+      (c.shorter_plans_keep_limits.ensures (function_of c.args.rules.now) c.args.below c.args.ob
+      c.rules_are_valid.ensures c.requires.bounded).paths;
   front = c.search_in.ensures.front;
 }

@@ -9,7 +9,8 @@ use Rattle.ot_drill.proofs.count.cases_with.Goals as goal
 
 pub loop-second-preserved : goal.loop-second-preserved
 loop-second-preserved c = record {
-  count = sum_more (cases_for (function_of c.args.rules.now) c.args.first) KINDS c.loop-second.second-index c.loop-second.count
+  count = sum_more (cases_for (function_of c.args.rules.now) c.args.first) KINDS
+      c.loop-second.second-index c.loop-second.count
       c.cases_for-more.result _ c.loop-second-test.true c.loop-second.invariant.count c.cases_for-more.ensures.count;
   few = omega arith;
 }

@@ -20,4 +20,5 @@ loop-first-init c = record { count = refl; few = omega arith }
 pub returns : goal.returns
 returns c =
     c.loop-first.invariant.count
-    ∙ ap (λ (kinds : List Kind). sum (map (cases_with (function_of c.args.rules.now)) kinds)) (take_all c.loop-first.first-index KINDS c.loop-first-test.false)
+    ∙ ap (λ (kinds : List Kind). sum (map (cases_with (function_of c.args.rules.now)) kinds))
+    (take_all c.loop-first.first-index KINDS c.loop-first-test.false)

@@ -4,5 +4,5 @@ use Rattle.ot_drill.proofs.event.makes.Goals as goal
 
 pub loop-round-preserved : goal.loop-round-preserved
 loop-round-preserved c =
-    next_items makes_in c.loop-round.events.items c.push_round.new.events.items c.loop-round.round c.loop-round.invariant
-    c.in_ok-push_round.ensures
+    next_items makes_in c.loop-round.events.items c.push_round.new.events.items c.loop-round.round
+    c.loop-round.invariant c.in_ok-push_round.ensures

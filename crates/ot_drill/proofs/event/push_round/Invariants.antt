@@ -7,4 +7,5 @@ use Rattle.ot_drill.proofs.event.push_round.Given as goal
 -- the sites before this one have made their operations
 abbrev pub invariant-loop-site : goal.invariant-loop-site
 invariant-loop-site l =
-    l.events.items ≡ l.initial.events.items ++ map (λ s. Make s (round_operation l.round s)) (range_with_len 1 (l.site - 1))
+    l.events.items ≡ l.initial.events.items
+    ++ map (λ s. Make s (round_operation l.round s)) (range_with_len 1 (l.site - 1))

@@ -24,8 +24,10 @@ returns c =
     let done = c.in_ok-tally.ensures in record {
       begun = begun;
       is_begun = subst (λ (f : Function). IsBegun f [] SITES begun) c.requires.function
-          (subst (λ (d : List Cell). IsBegun (function_of c.args.rules.now) d SITES begun) c.new.ensures c.in_ok-session.ensures);
-      all = subst (λ (l : List Event). ArePlayed begun l end c.in_ok-tally.tally) (c.deref.ensures.value ∙ c.in_ok-events.ensures) done.played;
+          (subst (λ (d : List Cell). IsBegun (function_of c.args.rules.now) d SITES begun) c.new.ensures
+          c.in_ok-session.ensures);
+      all = subst (λ (l : List Event). ArePlayed begun l end c.in_ok-tally.tally) (c.deref.ensures.value
+          ∙ c.in_ok-events.ensures) done.played;
       sites = done.sites;
       function = done.function ∙ c.in_ok-session.ensures.function ∙ c.requires.function;
       few = record {

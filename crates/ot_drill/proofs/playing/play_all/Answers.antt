@@ -16,9 +16,9 @@ loop-event-init c =
 
 pub loop-event-preserved : goal.loop-event-preserved
 loop-event-preserved c =
-    in_play-next (view_of c.args.session.now) (view_of c.loop-event.session) c.loop-event.tally c.args.events.now c.loop-event.event-index _
-    c.loop-event-test.true c.requires.function c.loop-event.invariant (view_of c.play_event.new.session) c.in_ok-tally.tally
-    c.in_ok-tally.ensures
+    in_play-next (view_of c.args.session.now) (view_of c.loop-event.session) c.loop-event.tally c.args.events.now
+    c.loop-event.event-index _ c.loop-event-test.true c.requires.function c.loop-event.invariant
+    (view_of c.play_event.new.session) c.in_ok-tally.tally c.in_ok-tally.ensures
 
 -- the next event can be done, and few were done before
 pub play_event-requires : goal.play_event-requires
@@ -29,7 +29,8 @@ play_event-requires c =
     let play = c.loop-event.invariant in record {
       is_open = play.stands.is_open;
       function = is_drill begun v c.requires.function play.function;
-      may = next_can_be_done begun v c.loop-event.tally c.args.events.now i _ c.loop-event-test.true c.requires.function play;
+      may = next_can_be_done begun v c.loop-event.tally c.args.events.now i _ c.loop-event-test.true
+          c.requires.function play;
       made = let few = play.made in omega arith;
       held = let few = play.held in omega arith;
       repeated = let few = play.repeated in omega arith;
@@ -39,8 +40,8 @@ pub returns : goal.returns
 returns c =
     let play = c.loop-event.invariant in
     let all : length c.args.events.now ≤ c.loop-event.event-index = omega arith in record {
-      played = subst (λ (l : List Event). ArePlayed (view_of c.args.session.now) l (view_of c.loop-event.session) c.loop-event.tally)
-          (take_all c.loop-event.event-index c.args.events.now all) play.played;
+      played = subst (λ (l : List Event). ArePlayed (view_of c.args.session.now) l (view_of c.loop-event.session)
+          c.loop-event.tally) (take_all c.loop-event.event-index c.args.events.now all) play.played;
       sites = play.stands.sites;
       function = play.function;
       few = has_few_forms (view_of c.loop-event.session) play.counts play.stands;

@@ -10,8 +10,10 @@ use Rattle.ot_drill.proofs.playing.take.Goals as goal
 
 -- what is left to refuse an operation
 only_memory :
-    (old new : View) (s n : ℕ) (e : Take) → HasTaken old new s n (Err e) → IsSite (length old.sites) s → n < length old.made
-    → ((o : ℕ) → ◌≢◌ {A = Result Took Take} (Err e) (Err (Stuck o))) → ◌≢◌ {A = Result Took Take} (Err e) (Err Spent) → e ≡ NoMemory
+    (old new : View) (s n : ℕ) (e : Take) → HasTaken old new s n (Err e)
+    → IsSite (length old.sites) s → n < length old.made
+    → ((o : ℕ) → ◌≢◌ {A = Result Took Take} (Err e) (Err (Stuck o)))
+    → ◌≢◌ {A = Result Took Take} (Err e) (Err Spent) → e ≡ NoMemory
 only_memory old new s n NoSite taken there made stuck spent = absurd (taken.0 there)
 only_memory old new s n NoOp taken there made stuck spent = absurd (omega (arith, taken.1))
 only_memory old new s n (Stuck o) taken there made stuck spent = absurd (stuck o refl)
@@ -36,8 +38,10 @@ unreachable-requires c =
     let tp2 = subst (λ (f : Function). HasTp2 f) (sym drill.1) (laws.tp2 drill.0) in
     let chars = subst (λ (f : Function). f.head.chars_differ ≡ false) (sym drill.1) (laws.chars drill.0) in
     let is : c.in-Err.field-0 ≡ NoMemory =
-    only_memory (view_of c.args.session.now) (view_of c.take.new.self) c.args.site c.args.number c.in-Err.field-0 c.in-Err.ensures.taken
-    c.requires.may.0 c.requires.may.1 (c.in-Err.ensures.never_stuck tp1 tp2 chars) (c.in-Err.ensures.never_spent c.requires.may.2) in
+    only_memory (view_of c.args.session.now) (view_of c.take.new.self) c.args.site c.args.number
+    c.in-Err.field-0 c.in-Err.ensures.taken
+    c.requires.may.0 c.requires.may.1 (c.in-Err.ensures.never_stuck tp1 tp2 chars)
+    (c.in-Err.ensures.never_spent c.requires.may.2) in
     search rules
 
 pub returns-in-Ok : goal.returns-in-Ok

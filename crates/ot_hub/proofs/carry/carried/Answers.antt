@@ -1,4 +1,5 @@
-use Rattle.std.proofs.Common.{◌≡◌, ℕ, ◌+◌, ◌<◌, List, [], ◌∷◌, length, drop, get_or, refl, sym, ap, ◌∙◌, arith, add-zero}
+use Rattle.std.proofs.Common.{◌≡◌, ℕ, ◌+◌, ◌<◌, List, [], ◌∷◌, length, drop, get_or, refl, sym, ap, ◌∙◌, arith}
+use Rattle.std.proofs.Common.{add-zero}
 use Rattle.std.specs.Prelude.{Some}
 use Rattle.std.proofs.lemmas.List.{drop_all}
 use Rattle.ot_model.specs.declared.op.Op.{Op}
@@ -8,7 +9,8 @@ use Rattle.ot_hub.specs.declared.carry.Crossed.{Crossed}
 use Rattle.ot_hub.specs.declared.placed.PlacedOp.{PlacedOp}
 use Rattle.ot_hub.specs.Carry.{crossed, carry, from_place, carried_op}
 use Rattle.ot_hub.specs.Usable.{farthest_carried}
-use Rattle.ot_hub.proofs.Carrying.{no_one, from_true, from_false, rest-dropped, carry-next, carry-stuck, carried_op-carried_behind}
+use Rattle.ot_hub.proofs.Carrying.{no_one, from_true, from_false, rest-dropped, carry-next, carry-stuck}
+use Rattle.ot_hub.proofs.Carrying.{carried_op-carried_behind}
 use Rattle.ot_hub.proofs.Near.{KeepsNear, keeps_near, CanCross, CanCross-next, IsUsable-next, IsUsable-passed}
 use Rattle.ot_hub.proofs.carry.carried.Goals as goal
 use Rattle.ot_hub.proofs.carry.carried.Goals.{then-other-place+in_ok-form, else-other-place}
@@ -22,8 +24,8 @@ cross-requires c =
     let i : ℕ = c.loop-other.other-index in
     let m : ℕ = farthest_carried (length c.args.list.now) in
     let both : CanCross f c.loop-other.form (get_or c.args.list.now i no_one).op =
-    CanCross-next f (keeps_near f c.functions_keep_forms.ensures c.transform_stays_near.ensures c.enabled_operations_are_near.ensures.wider
-    c.rules_are_valid.ensures)
+    CanCross-next f (keeps_near f c.functions_keep_forms.ensures c.transform_stays_near.ensures
+    c.enabled_operations_are_near.ensures.wider c.rules_are_valid.ensures)
     c.args.list.now m i c.loop-other.form c.loop-other-test.true c.loop-other.invariant.usable c.requires.list
     (omega (arith, c.loop-other-test.true, c.requires.few)) in
     record { own = both.own; other = both.other }
@@ -39,15 +41,18 @@ loop-other-preserved c =
     let here : PlacedOp = get_or list i no_one in
     let inside : i < length list = c.loop-other-test.true in
     let has : KeepsNear f =
-    keeps_near f c.functions_keep_forms.ensures c.transform_stays_near.ensures c.enabled_operations_are_near.ensures.wider c.rules_are_valid.ensures in
+    keeps_near f c.functions_keep_forms.ensures c.transform_stays_near.ensures
+    c.enabled_operations_are_near.ensures.wider c.rules_are_valid.ensures in
     elim c.if-other-place.branch [
       | then-other-place+in_ok-form w ↦
           (let both : Crossed = w.in_ok-form.field-0 in
           let is : crossed f o here.op ≡ Some both = sym w.in_ok-form.ensures in
           rw w.form-is (record {
             same = c.loop-other.invariant.same
-                ∙ ap carried_op (carry-next f list c.args.place i inside o both (from_true c.args.place here.place w.if-other-place.true) is)
-                ∙ carried_op-carried_behind (record here { op = both.other } ∷ []) (carry f both.own (from_place c.args.place (drop (i + 1) list)));
+                ∙ ap carried_op (carry-next f list c.args.place i inside o both
+                (from_true c.args.place here.place w.if-other-place.true) is)
+                ∙ carried_op-carried_behind (record here { op = both.other } ∷ [])
+                (carry f both.own (from_place c.args.place (drop (i + 1) list)));
             usable = IsUsable-next f has list m i o inside c.loop-other.invariant.usable c.requires.list both is;
           }))
       | else-other-place w ↦ rw w.form-is (record {
@@ -65,9 +70,11 @@ returns-in_err-form c =
     let list : List PlacedOp = c.args.list.now in
     let i : ℕ = c.loop-other.other-index in
     c.from_residual.ensures
-    ∙ sym (c.loop-other.invariant.same ∙ ap carried_op (carry-stuck f list c.args.place i c.loop-other-test.true c.loop-other.form
+    ∙ sym (c.loop-other.invariant.same
+    ∙ ap carried_op (carry-stuck f list c.args.place i c.loop-other-test.true c.loop-other.form
     (from_true c.args.place (get_or list i no_one).place c.if-other-place.true) (sym c.in_err-form.ensures)))
 
 pub returns : goal.returns
-returns c = sym (c.loop-other.invariant.same ∙ ap (λ bs. carried_op (carry (function_of c.args.rules.now) c.loop-other.form (from_place c.args.place bs)))
+returns c = sym (c.loop-other.invariant.same
+    ∙ ap (λ bs. carried_op (carry (function_of c.args.rules.now) c.loop-other.form (from_place c.args.place bs)))
     (drop_all c.loop-other.other-index c.args.list.now (omega (arith, c.loop-other-test.false))))

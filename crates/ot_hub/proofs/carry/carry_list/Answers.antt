@@ -1,4 +1,5 @@
-use Rattle.std.proofs.Common.{◌≡◌, ℕ, ◌+◌, ◌<◌, true, false, List, [], ◌∷◌, ◌++◌, length, drop, get_or, sym, ap, ◌∙◌, arith, add-zero, subst, Option, None, is_some}
+use Rattle.std.proofs.Common.{◌≡◌, ℕ, ◌+◌, ◌<◌, true, false, List, [], ◌∷◌, ◌++◌, length, drop, get_or, sym, ap, ◌∙◌}
+use Rattle.std.proofs.Common.{arith, add-zero, subst, Option, None, is_some}
 use Rattle.std.proofs.lemmas.List.{append-nil, drop_all}
 use Rattle.std.specs.Prelude.{Some}
 use Rattle.std.specs.Option.{option_map}
@@ -9,7 +10,8 @@ use Rattle.ot_hub.specs.declared.carry.Crossed.{Crossed}
 use Rattle.ot_hub.specs.declared.placed.PlacedOp.{PlacedOp}
 use Rattle.ot_hub.specs.Carry.{Carried, crossed, carried_behind, carry, carried_list, from_place}
 use Rattle.ot_hub.specs.Usable.{farthest_carried}
-use Rattle.ot_hub.proofs.Carrying.{no_one, from_true, from_false, rest-dropped, carry-next, carry-stuck, carried_behind-carried_behind, carried_behind-nothing}
+use Rattle.ot_hub.proofs.Carrying.{no_one, from_true, from_false, rest-dropped, carry-next, carry-stuck}
+use Rattle.ot_hub.proofs.Carrying.{carried_behind-carried_behind, carried_behind-nothing}
 use Rattle.ot_hub.proofs.Near.{KeepsNear, keeps_near, CanCross-next, IsUsable-next, IsUsable-passed}
 use Rattle.ot_hub.proofs.carry.carry_list.Goals as goal
 use Rattle.ot_hub.proofs.carry.carry_list.Goals.{then-other-place+in-Some+in_ok-push, else-other-place}
@@ -17,24 +19,29 @@ use Rattle.ot_hub.proofs.carry.carry_list.Goals.{then-other-place+in-Some+in_ok-
 pub loop-other-init : goal.loop-other-init
 loop-other-init c =
     let start = carry (function_of c.args.rules.now) c.args.op (from_place c.args.place c.args.list.now) in
-    record { same = rw c.new-new.ensures (sym (carried_behind-nothing start)); usable = rw add-zero c.requires.usable.op }
+    record {
+      same = rw c.new-new.ensures (sym (carried_behind-nothing start));
+      usable = rw add-zero c.requires.usable.op;
+    }
 
 pub cross-requires-clause-own : goal.cross-requires-clause-own
 cross-requires-clause-own c =
     let f : Function = function_of c.args.rules.now in
     let i : ℕ = c.loop-other.other-index in
-    (CanCross-next f (keeps_near f c.functions_keep_forms.ensures c.transform_stays_near.ensures c.enabled_operations_are_near.ensures.wider
-    c.rules_are_valid.ensures)
-    c.args.list.now (farthest_carried (length c.args.list.now)) i c.loop-other.form c.loop-other-test.true c.loop-other.invariant.usable c.requires.usable.list
+    (CanCross-next f (keeps_near f c.functions_keep_forms.ensures c.transform_stays_near.ensures
+    c.enabled_operations_are_near.ensures.wider c.rules_are_valid.ensures)
+    c.args.list.now (farthest_carried (length c.args.list.now)) i c.loop-other.form c.loop-other-test.true
+    c.loop-other.invariant.usable c.requires.usable.list
     (omega (arith, c.loop-other-test.true, c.requires.usable.few))).own
 
 pub cross-requires-clause-other : goal.cross-requires-clause-other
 cross-requires-clause-other c =
     let f : Function = function_of c.args.rules.now in
     let i : ℕ = c.loop-other.other-index in
-    (CanCross-next f (keeps_near f c.functions_keep_forms.ensures c.transform_stays_near.ensures c.enabled_operations_are_near.ensures.wider
-    c.rules_are_valid.ensures)
-    c.args.list.now (farthest_carried (length c.args.list.now)) i c.loop-other.form c.loop-other-test.true c.loop-other.invariant.usable c.requires.usable.list
+    (CanCross-next f (keeps_near f c.functions_keep_forms.ensures c.transform_stays_near.ensures
+    c.enabled_operations_are_near.ensures.wider c.rules_are_valid.ensures)
+    c.args.list.now (farthest_carried (length c.args.list.now)) i c.loop-other.form c.loop-other-test.true
+    c.loop-other.invariant.usable c.requires.usable.list
     (omega (arith, c.loop-other-test.true, c.requires.usable.few))).other
 
 -- the operation can be carried over all of them
@@ -61,7 +68,8 @@ loop-other-preserved c =
     let here : PlacedOp = get_or list i no_one in
     let inside : i < length list = c.loop-other-test.true in
     let has : KeepsNear f =
-    keeps_near f c.functions_keep_forms.ensures c.transform_stays_near.ensures c.enabled_operations_are_near.ensures.wider c.rules_are_valid.ensures in
+    keeps_near f c.functions_keep_forms.ensures c.transform_stays_near.ensures
+    c.enabled_operations_are_near.ensures.wider c.rules_are_valid.ensures in
     elim c.if-other-place.branch [
       | then-other-place+in-Some+in_ok-push w ↦
           (let both : Crossed = w.in-Some.both in
@@ -71,8 +79,10 @@ loop-other-preserved c =
           rw (w.form-is, w.new-is, pushed) (record {
             same = c.loop-other.invariant.same
                 ∙ ap (option_map (carried_behind c.loop-other.new))
-                (carry-next f list c.args.place i inside o both (from_true c.args.place here.place w.if-other-place.true) is)
-                ∙ carried_behind-carried_behind c.loop-other.new moved (carry f both.own (from_place c.args.place (drop (i + 1) list)));
+                (carry-next f list c.args.place i inside o both
+                (from_true c.args.place here.place w.if-other-place.true) is)
+                ∙ carried_behind-carried_behind c.loop-other.new moved
+                (carry f both.own (from_place c.args.place (drop (i + 1) list)));
             usable = IsUsable-next f has list m i o inside c.loop-other.invariant.usable c.requires.usable.list both is;
           }))
       | else-other-place w ↦ rw (w.form-is, w.new-is) (record {

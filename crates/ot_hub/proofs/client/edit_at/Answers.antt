@@ -13,19 +13,20 @@ use Rattle.ot_hub.proofs.client.edit_at.Goals as goal
 pub edit-requires-clause-enabled : goal.edit-requires-clause-enabled
 edit-requires-clause-enabled c =
     subst (λ (one : Client). IsEnabled c.args.op (length one.doc))
-    (client_at-read c.args.clients.now c.args.place c.index-clients-place.result c.requires.place c.index-clients-place.is)
-    c.requires.client.enabled
+    (client_at-read c.args.clients.now c.args.place c.index-clients-place.result c.requires.place
+    c.index-clients-place.is) c.requires.client.enabled
 
 pub edit-requires-clause-few : goal.edit-requires-clause-few
 edit-requires-clause-few c =
     subst (λ (one : Client). one.edits < MAX_EDITS)
-    (client_at-read c.args.clients.now c.args.place c.index-clients-place.result c.requires.place c.index-clients-place.is)
-    c.requires.client.few
+    (client_at-read c.args.clients.now c.args.place c.index-clients-place.result c.requires.place
+    c.index-clients-place.is) c.requires.client.few
 
 pub returns-clause-ok : goal.returns-clause-ok
 returns-clause-ok c =
     let mode = (function_of c.args.rules.now).head.mode in
-    let same = client_at-read c.args.clients.now c.args.place c.index-clients-place.result c.requires.place c.index-clients-place.is in
+    let same = client_at-read c.args.clients.now c.args.place c.index-clients-place.result c.requires.place
+    c.index-clients-place.is in
     on_ok_weaker c.edit.result
     (λ is. ap (λ (one : Client). slice_set c.args.clients.now c.args.place one)
     (is ∙ ap (λ (one : Client). edited mode c.args.op one) (sym same))) c.edit.ensures.ok

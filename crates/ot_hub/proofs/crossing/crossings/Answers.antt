@@ -1,4 +1,5 @@
-use Rattle.std.proofs.Common.{◌≡◌, ℕ, ◌+◌, ◌<◌, List, [], ◌∷◌, ◌++◌, length, drop, get_or, refl, sym, ap, ◌∙◌, arith, add-zero, append_assoc}
+use Rattle.std.proofs.Common.{◌≡◌, ℕ, ◌+◌, ◌<◌, List, [], ◌∷◌, ◌++◌, length, drop, get_or, refl, sym, ap, ◌∙◌, arith}
+use Rattle.std.proofs.Common.{add-zero, append_assoc}
 use Rattle.std.proofs.lemmas.List.{append-nil, drop_all}
 use Rattle.std.proofs.lemmas.List.Elements.{All-nil, All-push}
 use Rattle.std.specs.Prelude.{Some}
@@ -30,10 +31,10 @@ cross-requires c =
     let f : Function = function_of c.args.rules.now in
     let i : ℕ = c.loop-other.other-index in
     let both : CanCross f c.loop-other.form (get_or c.args.list.now i no_one).op =
-    CanCross-next f (keeps_near f c.functions_keep_forms.ensures c.transform_stays_near.ensures c.enabled_operations_are_near.ensures.wider
-    c.rules_are_valid.ensures)
-    c.args.list.now (farthest_carried (length c.args.list.now)) i c.loop-other.form c.loop-other-test.true c.loop-other.invariant.usable c.requires.list
-    (omega (arith, c.loop-other-test.true, c.requires.few)) in
+    CanCross-next f (keeps_near f c.functions_keep_forms.ensures c.transform_stays_near.ensures
+    c.enabled_operations_are_near.ensures.wider c.rules_are_valid.ensures)
+    c.args.list.now (farthest_carried (length c.args.list.now)) i c.loop-other.form c.loop-other-test.true
+    c.loop-other.invariant.usable c.requires.list (omega (arith, c.loop-other-test.true, c.requires.few)) in
     record { own = both.own; other = both.other }
 
 -- one of the list more: it was crossed, or stands before the place
@@ -47,9 +48,10 @@ loop-other-preserved c =
     let here : PlacedOp = get_or list i no_one in
     let inside : i < length list = c.loop-other-test.true in
     let has : KeepsNear f =
-    keeps_near f c.functions_keep_forms.ensures c.transform_stays_near.ensures c.enabled_operations_are_near.ensures.wider c.rules_are_valid.ensures in
-    let both_can : CanCross f o here.op = CanCross-next f has list m i o inside c.loop-other.invariant.usable c.requires.list
-    (omega (arith, inside, c.requires.few)) in
+    keeps_near f c.functions_keep_forms.ensures c.transform_stays_near.ensures
+    c.enabled_operations_are_near.ensures.wider c.rules_are_valid.ensures in
+    let both_can : CanCross f o here.op = CanCross-next f has list m i o inside c.loop-other.invariant.usable
+    c.requires.list (omega (arith, inside, c.requires.few)) in
     let pair : Crossing = record { own = o; other = here.op } in
     elim c.if-other-place.branch [
       | then-other-place+in_ok-push+in-Some w ↦
@@ -59,10 +61,12 @@ loop-other-preserved c =
           rw (w.form-is, w.found-is, pushed) (record {
             same = c.loop-other.invariant.same
                 ∙ ap (λ rest. c.loop-other.found ++ rest)
-                (crossings-next f list c.args.place i inside o both (from_true c.args.place here.place w.if-other-place.true) is)
+                (crossings-next f list c.args.place i inside o both
+                (from_true c.args.place here.place w.if-other-place.true) is)
                 ∙ simp (append_assoc) refl;
             usable = IsUsable-next f has list m i o inside c.loop-other.invariant.usable c.requires.list both is;
-            all = All-push (CanBothMove f) c.loop-other.found pair c.loop-other.invariant.all (record { own = both_can.own; other = both_can.other });
+            all = All-push (CanBothMove f) c.loop-other.found pair c.loop-other.invariant.all
+                (record { own = both_can.own; other = both_can.other });
           }))
       | else-other-place w ↦ rw (w.form-is, w.found-is) (record {
         same = c.loop-other.invariant.same
@@ -82,9 +86,10 @@ returns-in_default-clause-usable c =
     let o : Op = c.loop-other.form in
     let here : PlacedOp = get_or list i no_one in
     let both_can : CanCross f o here.op =
-    CanCross-next f (keeps_near f c.functions_keep_forms.ensures c.transform_stays_near.ensures c.enabled_operations_are_near.ensures.wider
-    c.rules_are_valid.ensures)
+    CanCross-next f (keeps_near f c.functions_keep_forms.ensures c.transform_stays_near.ensures
+    c.enabled_operations_are_near.ensures.wider c.rules_are_valid.ensures)
     list (farthest_carried (length list)) i o c.loop-other-test.true c.loop-other.invariant.usable c.requires.list
     (omega (arith, c.loop-other-test.true, c.requires.few)) in
-    rw c.in_ok-push.ensures.ok (All-push (CanBothMove f) c.loop-other.found (record { own = o; other = here.op }) c.loop-other.invariant.all
+    rw c.in_ok-push.ensures.ok
+    (All-push (CanBothMove f) c.loop-other.found (record { own = o; other = here.op }) c.loop-other.invariant.all
     (record { own = both_can.own; other = both_can.other }))

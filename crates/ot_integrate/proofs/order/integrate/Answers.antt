@@ -1,4 +1,5 @@
-use Rattle.std.proofs.Common.{◌≡◌, ◌++◌, ◌∷◌, [], ℕ, true, List, length, get_or, Some, None, Err, arith, refl, sym, ap, ◌∙◌, length-append}
+use Rattle.std.proofs.Common.{◌≡◌, ◌++◌, ◌∷◌, [], ℕ, true, List, length, get_or, Some, None, Err, arith, refl, sym, ap}
+use Rattle.std.proofs.Common.{◌∙◌, length-append}
 use Rattle.std.proofs.lemmas.Bool.{false_from_ne_true}
 use Rattle.std.proofs.lemmas.List.Elements.{All-nil, All-push}
 use Rattle.ot_model.specs.declared.op.Op.{Op}
@@ -30,7 +31,8 @@ form_behind-requires c =
     let n : ℕ = length c.args.doc.now in
     let o : Op = operation_at c.args.ops.now (get_or c.args.order.now c.loop-place.place 0) in
     let integrable : IsIntegrable f n o =
-    operation_at-fact (IsIntegrable f n) c.args.ops.now (get_or c.args.order.now c.loop-place.place 0) c.requires.integrable
+    operation_at-fact (IsIntegrable f n) c.args.ops.now
+    (get_or c.args.order.now c.loop-place.place 0) c.requires.integrable
     (record { declared = refl; enabled = tt }) in
     record {
       declared = rw c.named.ensures integrable.declared;
@@ -55,7 +57,8 @@ returns-in_default c =
     ∙ outcome-without_form f c.loop-place.current executed ops order place c.loop-place-test.true none) in
     record {
       outcome = is;
-      one_document = EndsAsListed-from_law c.both_properties_give_one_outcome.ensures f c.args.doc.now ops order (StuckAt place) is;
+      one_document = EndsAsListed-from_law c.both_properties_give_one_outcome.ensures f c.args.doc.now ops
+          order (StuckAt place) is;
     }
 
 -- the form is not enabled: the order is stuck here
@@ -71,13 +74,15 @@ returns-in-Err-NotEnabled c =
     rw (← c.named.ensures, ← c.deref.ensures.value) (sym c.in-Some.ensures.form) in
     let n : ℕ = length c.loop-place.current in
     let refused = false_from_ne_true (is_enabled p n)
-    (λ is. c.in-Err-NotEnabled.ensures.not_enabled.0 (ap Err c.in-Err-NotEnabled.field-0-is) ((c.tests_decide_their_facts.ensures.enabled n p).0 is)) in
+    (λ is. c.in-Err-NotEnabled.ensures.not_enabled.0 (ap Err c.in-Err-NotEnabled.field-0-is)
+    ((c.tests_decide_their_facts.ensures.enabled n p).0 is)) in
     let is : StuckAt place ≡ integrated f c.args.doc.now ops order =
     sym (c.loop-place.invariant.outcome
     ∙ outcome-refused f c.loop-place.current executed ops order place c.loop-place-test.true p form refused) in
     record {
       outcome = is;
-      one_document = EndsAsListed-from_law c.both_properties_give_one_outcome.ensures f c.args.doc.now ops order (StuckAt place) is;
+      one_document = EndsAsListed-from_law c.both_properties_give_one_outcome.ensures f c.args.doc.now ops
+          order (StuckAt place) is;
     }
 
 -- one operation more was executed
@@ -92,7 +97,8 @@ loop-place-preserved c =
     let p : Op = c.in-Some.form in
     let form : through f (operation_at ops (get_or order place 0)) executed ≡ Some p =
     rw (← c.named.ensures, ← c.deref.ensures.value) (sym c.in-Some.ensures.form) in
-    let enabled : is_enabled p n ≡ true = (c.tests_decide_their_facts.ensures.enabled n p).1 c.in-Ok.ensures.was_enabled in
+    let enabled : is_enabled p n ≡ true =
+    (c.tests_decide_their_facts.ensures.enabled n p).1 c.in-Ok.ensures.was_enabled in
     let pushed : c.push.new.self.items ≡ executed ++ p ∷ [] = c.in_ok-push-in-Ok.ensures.items in
     let one_more : IsExecuted f p = record {
       declared = c.in-Some.ensures.declared;
@@ -106,7 +112,8 @@ loop-place-preserved c =
       executed = rw pushed (All-push (IsExecuted f) executed p c.loop-place.invariant.executed one_more);
       mode = c.loop-place.invariant.mode;
       count = rw (pushed, length-append) (omega arith);
-      cells = rw c.in-Ok.ensures.ok (omega (arith, c.documents_grow_by_one_cell_at_most.ensures c.head-mode.result.mode p c.loop-place.current));
+      cells = rw c.in-Ok.ensures.ok
+          (omega (arith, c.documents_grow_by_one_cell_at_most.ensures c.head-mode.result.mode p c.loop-place.current));
     }
 
 -- all were executed: the outcome is the document
@@ -116,9 +123,10 @@ returns c =
     let current = c.loop-place.current in
     let is : Document current ≡ integrated f c.args.doc.now c.args.ops.now c.args.order.now =
     sym (c.loop-place.invariant.outcome
-    ∙ outcome-end f current c.loop-place.executed.items c.args.ops.now c.args.order.now c.loop-place.place c.loop-place-test.false) in
+    ∙ outcome-end f current c.loop-place.executed.items c.args.ops.now c.args.order.now c.loop-place.place
+    c.loop-place-test.false) in
     record {
       outcome = is;
-      one_document = EndsAsListed-from_law c.both_properties_give_one_outcome.ensures f c.args.doc.now c.args.ops.now c.args.order.now
-          (Document current) is;
+      one_document = EndsAsListed-from_law c.both_properties_give_one_outcome.ensures f c.args.doc.now c.args.ops.now
+          c.args.order.now (Document current) is;
     }

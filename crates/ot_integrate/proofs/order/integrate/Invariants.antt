@@ -9,7 +9,8 @@ use Rattle.ot_integrate.proofs.order.integrate.Given as goal
 abbrev pub invariant-loop-place : goal.invariant-loop-place
 invariant-loop-place l = record {
   outcome : integrated (function_of l.rules) l.doc l.ops l.order
-      ≡ outcome_from (function_of l.rules) l.current l.executed.items l.place (map (operation_at l.ops) (drop l.place l.order));
+      ≡ outcome_from (function_of l.rules) l.current l.executed.items l.place
+      (map (operation_at l.ops) (drop l.place l.order));
   executed : All (IsExecuted (function_of l.rules)) l.executed.items;
   mode : l.mode ≡ (function_of l.rules).head.mode;
   count : length l.executed.items ≤ l.place;

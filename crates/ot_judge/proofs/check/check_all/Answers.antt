@@ -11,5 +11,5 @@ returns-clause-judged g c =
 pub returns-clause-only : goal.returns-clause-only
 returns-clause-only g c =
     λ bytes other is judged.
-    no_other g.F.Feed.left g.F.Feed.bound c.bytes_have_one_judgement.ensures (function_of c.args.rules.now) c.args.feed.now bytes
-    c.judge_all.result other c.head-head.ensures.valid is (returns-clause-judged g c) judged
+    no_other g.F.Feed.left g.F.Feed.bound c.bytes_have_one_judgement.ensures (function_of c.args.rules.now)
+    c.args.feed.now bytes c.judge_all.result other c.head-head.ensures.valid is (returns-clause-judged g c) judged

@@ -24,13 +24,14 @@ returns-in_err-level-clause-judged g c =
     rw (p.1, p.2)
     (answered g.F.Feed f c.args.feed.now c.read_header.new.feed c.in_err-level.field-0.0
     (header_refused g.F.Feed f c.args.feed.now c.read_header.new.feed c.in_err-level.field-0.0
-    (subst (λ (r : ReaderState). IsMisspeltBehind g.F.Feed (fed r c.args.feed.now) c.read_header.new.feed c.in_err-level.field-0.0) at
-    c.in_err-level.ensures.misspelt)))
+    (subst (λ (r : ReaderState). IsMisspeltBehind g.F.Feed (fed r c.args.feed.now) c.read_header.new.feed
+    c.in_err-level.field-0.0) at c.in_err-level.ensures.misspelt)))
 
 -- behind the header the sections are refused
 pub returns-in_err-judge_sections-clause-judged : goal.returns-in_err-judge_sections-clause-judged
 returns-in_err-judge_sections-clause-judged g c =
-    let p = err_from_is_err_and c.from_residual-in_err-judge_sections.result c.from_residual-in_err-judge_sections.ensures.1 in
+    let p = err_from_is_err_and c.from_residual-in_err-judge_sections.result
+    c.from_residual-in_err-judge_sections.ensures.1 in
     let f = function_of c.args.rules.now in
     let at = at_start f c.args.head.now c.in_ok-reader.reader c.in_ok-reader.ensures c.requires.head in
     let first = fed c.read_header.new.reader c.read_header.new.feed in
@@ -39,8 +40,8 @@ returns-in_err-judge_sections-clause-judged g c =
     at c.in_ok-level.ensures.header in
     rw (p.1, p.2)
     (answered g.F.Feed f c.args.feed.now c.judge_sections.new.feed c.in_err-judge_sections.field-0.0
-    (refused_behind g.F.Feed f c.args.feed.now c.judge_sections.new.feed c.in_ok-level.level first header c.in_err-judge_sections.field-0.0
-    c.in_err-judge_sections.ensures.refused))
+    (refused_behind g.F.Feed f c.args.feed.now c.judge_sections.new.feed c.in_ok-level.level first header
+    c.in_err-judge_sections.field-0.0 c.in_err-judge_sections.ensures.refused))
 
 -- behind the header all sections came, and they are the certificate
 pub returns-clause-judged : goal.returns-clause-judged
@@ -53,15 +54,16 @@ returns-clause-judged g c =
     at c.in_ok-level.ensures.header in
     inr
     (λ all have.
-    let made = behind_header g.F.Feed f c.args.feed.now c.judge_sections.new.feed c.in_ok-level.level first header (Ok tt)
-    c.in_ok-judge_sections.ensures.whole all have in
+    let made = behind_header g.F.Feed f c.args.feed.now c.judge_sections.new.feed c.in_ok-level.level first header
+    (Ok tt) c.in_ok-judge_sections.ensures.whole all have in
     (made.0, made.1, c.certificates_are_parts_that_fit.ensures.certificate f c.in_ok-level.level made.0 made.2))
 
 pub judge_sections-requires-clause-listed : goal.judge_sections-requires-clause-listed
 judge_sections-requires-clause-listed g c =
     let f = function_of c.args.rules.now in
     let names_are : c.deref.result.now ≡ obligations_of f.head c.in_ok-level.level =
-    c.deref.ensures.value ∙ c.in_ok-names.ensures ∙ ap (λ (h : Head). obligations_of h c.in_ok-level.level) c.requires.head in
+    c.deref.ensures.value ∙ c.in_ok-names.ensures
+    ∙ ap (λ (h : Head). obligations_of h c.in_ok-level.level) c.requires.head in
     subst (λ (n : List ObName). list_all (is_obligation f.head) n ≡ true) (sym names_are)
     (c.obligations_are_those_of_the_kinds.ensures.declared f.head c.in_ok-level.level)
 
@@ -69,7 +71,8 @@ pub judge_sections-requires-clause-lines : goal.judge_sections-requires-clause-l
 judge_sections-requires-clause-lines g c =
     let f = function_of c.args.rules.now in
     let names_are : c.deref.result.now ≡ obligations_of f.head c.in_ok-level.level =
-    c.deref.ensures.value ∙ c.in_ok-names.ensures ∙ ap (λ (h : Head). obligations_of h c.in_ok-level.level) c.requires.head in
+    c.deref.ensures.value ∙ c.in_ok-names.ensures
+    ∙ ap (λ (h : Head). obligations_of h c.in_ok-level.level) c.requires.head in
     let at = at_start f c.args.head.now c.in_ok-reader.reader c.in_ok-reader.ensures c.requires.head in
     let first = fed c.read_header.new.reader c.read_header.new.feed in
     let header = subst (λ (r : ReaderState). Came g.F.Feed (fed r c.args.feed.now) first
@@ -80,7 +83,8 @@ judge_sections-requires-clause-lines g c =
 
 pub judge_sections-requires-clause-between : goal.judge_sections-requires-clause-between
 judge_sections-requires-clause-between g c =
-    between_parts g.F.Feed (fed c.in_ok-reader.reader c.args.feed.now) (fed c.read_header.new.reader c.read_header.new.feed) _ c.in_ok-level.ensures.header
+    between_parts g.F.Feed (fed c.in_ok-reader.reader c.args.feed.now)
+    (fed c.read_header.new.reader c.read_header.new.feed) _ c.in_ok-level.ensures.header
 
 -- what is left of the feed in each case
 pub returns-in_err-level-clause-truncated : goal.returns-in_err-level-clause-truncated
@@ -101,16 +105,18 @@ returns-in_err-names-clause-kept g c = c.read_header.ensures.leaves.kept
 
 pub returns-in_err-judge_sections-clause-truncated : goal.returns-in_err-judge_sections-clause-truncated
 returns-in_err-judge_sections-clause-truncated g c =
-    let p = err_from_is_err_and c.from_residual-in_err-judge_sections.result c.from_residual-in_err-judge_sections.ensures.1 in
+    let p = err_from_is_err_and c.from_residual-in_err-judge_sections.result
+    c.from_residual-in_err-judge_sections.ensures.1 in
     rw (p.1, p.2) (rw c.in_err-judge_sections.was at c.judge_sections.ensures.leaves).spent
 
 pub returns-in_err-judge_sections-clause-failed : goal.returns-in_err-judge_sections-clause-failed
 returns-in_err-judge_sections-clause-failed g c =
-    let p = err_from_is_err_and c.from_residual-in_err-judge_sections.result c.from_residual-in_err-judge_sections.ensures.1 in
+    let p = err_from_is_err_and c.from_residual-in_err-judge_sections.result
+    c.from_residual-in_err-judge_sections.ensures.1 in
     rw (p.1, p.2)
     (λ is.
-    rose_later g.F.Feed c.args.feed.now c.read_header.new.feed c.judge_sections.new.feed c.read_header.ensures.leaves.kept
-    ((rw c.in_err-judge_sections.was at c.judge_sections.ensures.leaves).failed is))
+    rose_later g.F.Feed c.args.feed.now c.read_header.new.feed c.judge_sections.new.feed
+    c.read_header.ensures.leaves.kept ((rw c.in_err-judge_sections.was at c.judge_sections.ensures.leaves).failed is))
 
 pub returns-in_err-judge_sections-clause-kept : goal.returns-in_err-judge_sections-clause-kept
 returns-in_err-judge_sections-clause-kept g c =

@@ -13,7 +13,8 @@ use Rattle.ot_least.proofs.descent.search_shorter.Goals as goal
 pub search_all-requires-clause-listed : goal.search_all-requires-clause-listed
 search_all-requires-clause-listed c =
     let head = (function_of c.args.rules.now).head in
-    let are = c.deref.ensures.value ∙ c.in_ok-names.ensures ∙ ap (λ (h : Head). parts_of h c.level_of-level.result) c.head.ensures.head in
+    let are = c.deref.ensures.value ∙ c.in_ok-names.ensures
+    ∙ ap (λ (h : Head). parts_of h c.level_of-level.result) c.head.ensures.head in
     subst (λ (obs : List ObName). list_all (is_obligation head) obs ≡ true) (sym are)
     (c.parts_are_obligations.ensures.listed head c.level_of-level.result)
 
@@ -25,9 +26,10 @@ returns c =
     let plan = plan_below f (Some e.cells) in
     let bytes = c.search_all.new.bytes.items in
     let are = c.deref.ensures.value ∙ c.in_ok-names.ensures ∙ ap (λ (h : Head). parts_of h level) c.head.ensures.head in
-    let begun = c.in_ok-write_low_header.ensures ∙ ap (λ (x : List ℕ). x ++ low_header_text level e.cells) c.requires.empty in
-    subst (λ (l : Level). IfOk c.search_all.result (AreSettled f.head plan (parts_of f.head l) c.args.budget (low_header_text l e.cells) bytes))
-    c.level_of-level.ensures
-    (subst (λ (x : List ℕ). IfOk c.search_all.result (AreSettled f.head plan (parts_of f.head level) c.args.budget x bytes)) begun
-    (subst (λ (obs : List ObName). IfOk c.search_all.result (AreSettled f.head plan obs c.args.budget c.write_low_header.new.out.items bytes)) are
-    c.search_all.ensures.settled))
+    let begun = c.in_ok-write_low_header.ensures
+    ∙ ap (λ (x : List ℕ). x ++ low_header_text level e.cells) c.requires.empty in
+    subst (λ (l : Level). IfOk c.search_all.result (AreSettled f.head plan (parts_of f.head l) c.args.budget
+    (low_header_text l e.cells) bytes)) c.level_of-level.ensures
+    (subst (λ (x : List ℕ). IfOk c.search_all.result (AreSettled f.head plan (parts_of f.head level) c.args.budget x
+    bytes)) begun (subst (λ (obs : List ObName). IfOk c.search_all.result (AreSettled f.head plan obs c.args.budget
+    c.write_low_header.new.out.items bytes)) are c.search_all.ensures.settled))

@@ -15,7 +15,8 @@ few_enough : (n most : ℕ) → n ≤ most → most ≤ 12309 → n < 2 ^ 32
 few_enough n most h g = omega arith
 
 possible_at_positions :
-    (w : List Lit) → IsPossible w → ((v : ℕ → ℤ) → v 0 ≡ pos 0 → AreMet v w → HasNoNegativePosition w v) → IsPossibleAtPositions w
+    (w : List Lit) → IsPossible w → ((v : ℕ → ℤ) → v 0 ≡ pos 0 → AreMet v w → HasNoNegativePosition w v)
+    → IsPossibleAtPositions w
 possible_at_positions w (v, z, met) positions = (v, z, met, positions v z met)
 
 -- the answers keep what the least values want
@@ -35,19 +36,22 @@ least_values-requires c =
       like = plans.answers why (plan_of f ob) w (plans.plans f ob valid) lead;
       named = ends.named (name_count ob) why (plan_of f ob) w fine lead;
       small = ends.small (name_count ob) why (plan_of f ob) w fine lead;
-      few = few_enough (length w) (longest_path (plan_of f ob)) (ends.few why (plan_of f ob) w lead) (limits.short f ob valid);
+      few = few_enough (length w) (longest_path (plan_of f ob)) (ends.few why (plan_of f ob) w lead)
+          (limits.short f ob valid);
       possible = possible_at_positions w c.requires.possible (λ v. plans.positions f ob why w v valid lead);
     }
 
 pub length_in-requires : goal.length_in-requires
 length_in-requires c =
     let least : AreLeast c.args.answers.now (floors_of c.args.ob) c.deref.result.now =
-    subst (λ (xs : List ℤ). AreLeast c.args.answers.now (floors_of c.args.ob) xs) (sym c.deref.ensures.value) c.in_ok-values.ensures.least in
+    subst (λ (xs : List ℤ). AreLeast c.args.answers.now (floors_of c.args.ob) xs) (sym c.deref.ensures.value)
+    c.in_ok-values.ensures.least in
     let at = least_length c.args.ob c.args.answers.now c.deref.result.now least in
     record { within = at.0; cells = at.1 }
 
 pub returns : goal.returns
 returns c =
     let least : AreLeast c.args.answers.now (floors_of c.args.ob) c.deref.result.now =
-    subst (λ (xs : List ℤ). AreLeast c.args.answers.now (floors_of c.args.ob) xs) (sym c.deref.ensures.value) c.in_ok-values.ensures.least in
+    subst (λ (xs : List ℤ). AreLeast c.args.answers.now (floors_of c.args.ob) xs) (sym c.deref.ensures.value)
+    c.in_ok-values.ensures.least in
     (c.deref.result.now, least, c.length_in.ensures)

@@ -12,5 +12,7 @@ pub cells_of-requires-clause-leads : goal.cells_of-requires-clause-leads
 cells_of-requires-clause-leads c =
     let plan = plan_of (function_of c.args.rules.now) c.args.ob in
     let are : c.deref-2.result.now ≡ answered_by c.args.answers.items =
-    c.deref-2.ensures.value ∙ c.in_ok-literals.ensures ∙ ap (λ (l : List Answer). answered_by l) c.deref.ensures.value in
-    subst (λ (w : List Lit). LeadTo c.args.why plan w) (sym are) (literals_lead c.args.why plan c.args.answers.items c.requires.way)
+    c.deref-2.ensures.value ∙ c.in_ok-literals.ensures
+    ∙ ap (λ (l : List Answer). answered_by l) c.deref.ensures.value in
+    subst (λ (w : List Lit). LeadTo c.args.why plan w) (sym are)
+    (literals_lead c.args.why plan c.args.answers.items c.requires.way)

@@ -21,10 +21,11 @@ returns-clause-fewer c =
     let f = function_of c.args.rules.now in
     let ob = c.args.ob in
     let rest : c.remove.new.self.items ≡ drop 1 c.args.answers.items = c.remove.ensures.items in
-    IfOk-weaker c.ending_at.result (λ e. HasCells ob (answered_by c.remove.new.self.items) e.cells) (λ e. e.cells < c.args.bound)
+    IfOk-weaker c.ending_at.result (λ e. HasCells ob (answered_by c.remove.new.self.items) e.cells)
+    (λ e. e.cells < c.args.bound)
     (λ e has.
     fewer_behind f ob c.args.why c.args.bound
-    (λ l more values. c.failing_ends_below_a_bound_are_shorter.ensures.shorter f ob c.args.why l more c.args.bound values c.rules_are_valid.ensures)
-    c.args.answers.items c.requires.way c.requires.possible e.cells
+    (λ l more values. c.failing_ends_below_a_bound_are_shorter.ensures.shorter f ob c.args.why l more c.args.bound
+    values c.rules_are_valid.ensures) c.args.answers.items c.requires.way c.requires.possible e.cells
     (subst (λ (l : List Answer). HasCells ob (answered_by l) e.cells) rest has))
     c.ending_at.ensures.cells

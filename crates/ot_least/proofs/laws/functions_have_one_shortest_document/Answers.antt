@@ -3,4 +3,5 @@ use Rattle.ot_least.proofs.laws.functions_have_one_shortest_document.Goals as go
 
 pub returns : goal.returns
 returns c f budget =
-    short_once c.obligations_have_one_question_list.ensures.one_below f budget (c.obligations_have_one_question_list.ensures.one f)
+    short_once c.obligations_have_one_question_list.ensures.one_below f budget
+    (c.obligations_have_one_question_list.ensures.one f)

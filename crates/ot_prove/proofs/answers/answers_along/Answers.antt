@@ -16,9 +16,9 @@ use Rattle.ot_prove.proofs.answers.answers_along.Goals as goal
 -- the asker is as it was behind one turn more
 kept_on :
     (g : Over) (c : After-turn g)
-    → IsAsBefore (g.A.Asker.is_own c.args.asker.now) (g.A.Asker.is_own c.turn.new.self) (g.A.Asker.plan c.args.asker.now)
-    (g.A.Asker.plan c.turn.new.self) (g.A.Asker.root c.args.asker.now) (g.A.Asker.root c.turn.new.self)
-    (g.A.Asker.name_count c.args.asker.now) (g.A.Asker.name_count c.turn.new.self)
+    → IsAsBefore (g.A.Asker.is_own c.args.asker.now) (g.A.Asker.is_own c.turn.new.self)
+    (g.A.Asker.plan c.args.asker.now) (g.A.Asker.plan c.turn.new.self) (g.A.Asker.root c.args.asker.now)
+    (g.A.Asker.root c.turn.new.self) (g.A.Asker.name_count c.args.asker.now) (g.A.Asker.name_count c.turn.new.self)
 kept_on g c =
     let turned = c.turn.ensures in
     IsAsBefore-trans c.loop-literal.invariant.kept
@@ -41,10 +41,11 @@ walked g c =
     let n = c.loop-literal.node in
     let known = c.loop-literal.invariant in
     let begins =
-    subst (λ (p : Plan g.row.A-Why.Denot). Begins (A.is_own now) (A.plan now) c.in_ok-lit.field-0 p) (c.turn.ensures.same.plans n known.own)
-    c.in_ok-lit.ensures.begins in
+    subst (λ (p : Plan g.row.A-Why.Denot). Begins (A.is_own now) (A.plan now) c.in_ok-lit.field-0 p)
+    (c.turn.ensures.same.plans n known.own) c.in_ok-lit.ensures.begins in
     ended_way (A.plan c.loop-literal.asker n) c.args.literals.now c.loop-literal.literal-index c.requires.0
-    (known.left c.requires.0 c.requires.1) (at_end (A.is_own now) (A.plan now) c.in_ok-lit.field-0 _ begins c.in-Holds.is)
+    (known.left c.requires.0 c.requires.1)
+    (at_end (A.is_own now) (A.plan now) c.in_ok-lit.field-0 _ begins c.in-Holds.is)
 
 -- one literal more is answered, and the walk goes on by its answer
 pub loop-literal-preserved : goal.loop-literal-preserved
@@ -71,7 +72,8 @@ loop-literal-preserved g c =
       said =
           rw pushed
           (said_on (A.plan now) n c.in-Ask.yes c.in-Ask.no c.in-Ask.lit begins.2 (A.name_count now) w at none said
-          c.loop-literal-test.true fine refl c.loop-literal.answers.items c.requires.0 (leads c.requires.0 c.requires.1) known.said);
+          c.loop-literal-test.true fine refl c.loop-literal.answers.items c.requires.0
+          (leads c.requires.0 c.requires.1) known.said);
       way =
           rw (pushed, side)
           (way_on (A.plan now) n c.in-Ask.yes c.in-Ask.no c.in-Ask.lit begins.2 (A.root c.args.asker.now)
@@ -89,13 +91,16 @@ loop-literal-preserved g c =
 pub returns-in-Holds-clause-literals : goal.returns-in-Holds-clause-literals
 returns-in-Holds-clause-literals g c =
     c.loop-literal.invariant.said
-    ∙ take_all c.loop-literal.literal-index c.args.literals.now (walked g (goal.at.returns-in-Holds-clause-literals g c).In-Holds)
+    ∙ take_all c.loop-literal.literal-index c.args.literals.now
+    (walked g (goal.at.returns-in-Holds-clause-literals g c).In-Holds)
 
 pub returns-in-Holds-clause-way : goal.returns-in-Holds-clause-way
 returns-in-Holds-clause-way g c end leads =
     let known = c.loop-literal.invariant in
-    subst (λ (p : Plan g.row.A-Why.Denot). AreAnswersTo (g.A.Asker.root c.args.asker.now) c.loop-literal.answers.items p)
-    (whole_way (g.A.Asker.plan c.loop-literal.asker c.loop-literal.node) c.args.literals.now c.loop-literal.literal-index end
+    subst (λ (p : Plan g.row.A-Why.Denot).
+    AreAnswersTo (g.A.Asker.root c.args.asker.now) c.loop-literal.answers.items p)
+    (whole_way (g.A.Asker.plan c.loop-literal.asker c.loop-literal.node) c.args.literals.now
+    c.loop-literal.literal-index end
     (walked g (goal.at.returns-in-Holds-clause-way g c).In-Holds) (known.left end leads)) known.way
 
 -- the asker is as it was
@@ -117,8 +122,8 @@ pub returns-clause-way : goal.returns-clause-way
 returns-clause-way g c end leads =
     let known = c.loop-literal.invariant in
     let w = c.args.literals.now in
-    subst (λ (p : Plan g.row.A-Why.Denot). AreAnswersTo (g.A.Asker.root c.args.asker.now) c.loop-literal.answers.items p)
-    (whole_way (g.A.Asker.plan c.loop-literal.asker c.loop-literal.node) w c.loop-literal.literal-index end
+    subst (λ (p : Plan g.row.A-Why.Denot). AreAnswersTo (g.A.Asker.root c.args.asker.now) c.loop-literal.answers.items
+    p) (whole_way (g.A.Asker.plan c.loop-literal.asker c.loop-literal.node) w c.loop-literal.literal-index end
     (omega (arith, c.loop-literal-test.false)) (known.left end leads)) known.way
 
 pub returns-clause-kept : goal.returns-clause-kept

@@ -11,6 +11,8 @@ invariant-loop-literal g l = record {
   way : AreAnswersTo (g.A.Asker.root l.fn.asker) l.answers.items (g.A.Asker.plan l.asker l.node);
   left : (end : Plan g.row.A-Why.Denot) → LeadsTo (g.A.Asker.root l.fn.asker) l.literals end
       → LeadsTo (g.A.Asker.plan l.asker l.node) (drop l.literal-index l.literals) end;
-  kept : IsAsBefore (g.A.Asker.is_own l.fn.asker) (g.A.Asker.is_own l.asker) (g.A.Asker.plan l.fn.asker) (g.A.Asker.plan l.asker)
-      (g.A.Asker.root l.fn.asker) (g.A.Asker.root l.asker) (g.A.Asker.name_count l.fn.asker) (g.A.Asker.name_count l.asker);
+  kept : IsAsBefore (g.A.Asker.is_own l.fn.asker) (g.A.Asker.is_own l.asker)
+      (g.A.Asker.plan l.fn.asker) (g.A.Asker.plan l.asker)
+      (g.A.Asker.root l.fn.asker) (g.A.Asker.root l.asker) (g.A.Asker.name_count l.fn.asker)
+      (g.A.Asker.name_count l.asker);
 }

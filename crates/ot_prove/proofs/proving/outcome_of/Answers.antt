@@ -29,8 +29,8 @@ returns-in_ok-answers-in-Fails-clause-agrees g c budget ended q list =
       lists.0,
       rw (c.in_ok-answers-in-Fails.ensures.literals, c.answers.ensures) lists.1,
       c.in_ok-answers-in-Fails.ensures.way (Fails c.in-Fails.why)
-          (subst (λ (w : List Lit). LeadsTo (g.A.Asker.root c.args.asker.now) w (Fails c.in-Fails.why)) (sym c.answers.ensures)
-          fails.leads),
+          (subst (λ (w : List Lit). LeadsTo (g.A.Asker.root c.args.asker.now) w (Fails c.in-Fails.why))
+          (sym c.answers.ensures) fails.leads),
     )
 
 -- the asker is as it was

@@ -27,8 +27,8 @@ search_through-requires-clause-searching g c =
     let search = c.in_ok-search.search in
     let at = c.in_ok-search.ensures in
     rw (at.path, at.nothing.0, c.requires.empty, at.nothing.1)
-    (IsSearching-begun (A.is_own now) (A.plan now) (A.root now) c.args.budget (A.name_count now) first search.possible search.cycles
-    search.tables.items begins (g.met.A.Asker.fine now first begins.0) at.cycles at.tables)
+    (IsSearching-begun (A.is_own now) (A.plan now) (A.root now) c.args.budget (A.name_count now) first search.possible
+    search.cycles search.tables.items begins (g.met.A.Asker.fine now first begins.0) at.cycles at.tables)
 
 pub returns-in_err-ended-clause-same : goal.returns-in_err-ended-clause-same
 returns-in_err-ended-clause-same g c = SamePlans-trans c.start.ensures.same c.search_through.ensures.kept.same
@@ -53,13 +53,15 @@ returns-clause-decides g c =
     let begins = c.in_ok-first.ensures.begins in
     let found =
     c.plans_have_one_question_list.ensures.some (A.name_count now) root
-    (subst (λ (p : Plan W). IsFine (A.name_count now) p) (begins.1 ∙ c.start.ensures.root_kept) (g.met.A.Asker.fine now first begins.0)) in
+    (subst (λ (p : Plan W). IsFine (A.name_count now) p) (begins.1 ∙ c.start.ensures.root_kept)
+    (g.met.A.Asker.fine now first begins.0)) in
     let agreed = c.outcome_of.ensures.agrees in
     IfOk-weaker c.outcome_of.result _ (IsDecided root c.args.budget)
     (λ o agrees.
     IsDecided-by_list root c.args.budget o c.question_lists_are_possible.ensures found
     (subst (λ (p : Plan W). AgreesWithLists p c.args.budget o)
-    (c.search_through.ensures.kept.root_kept ∙ c.start.ensures.root_kept) (agrees c.args.budget c.in_ok-ended.ensures.ended))) agreed
+    (c.search_through.ensures.kept.root_kept ∙ c.start.ensures.root_kept)
+    (agrees c.args.budget c.in_ok-ended.ensures.ended))) agreed
 
 pub returns-clause-front : goal.returns-clause-front
 returns-clause-front g c =
@@ -68,7 +70,8 @@ returns-clause-front g c =
 
 pub returns-clause-same : goal.returns-clause-same
 returns-clause-same g c =
-    SamePlans-trans c.start.ensures.same (SamePlans-trans c.search_through.ensures.kept.same c.outcome_of.ensures.kept.same)
+    SamePlans-trans c.start.ensures.same
+    (SamePlans-trans c.search_through.ensures.kept.same c.outcome_of.ensures.kept.same)
 
 pub returns-clause-root_kept : goal.returns-clause-root_kept
 returns-clause-root_kept g c =

@@ -34,8 +34,8 @@ returns-clause-ended g c =
     let A = g.A.Asker in
     let now = c.places.asker in
     let search = c.places.search in
-    AgreesWithLists-done (A.is_own now) (A.plan now) (A.root now) c.args.budget search.path _ _ search.tree search.asked c.is_open.result
-    c.places-test.false c.is_open.ensures c.places.invariant.searching
+    AgreesWithLists-done (A.is_own now) (A.plan now) (A.root now) c.args.budget search.path _ _ search.tree search.asked
+    c.is_open.result c.places-test.false c.is_open.ensures c.places.invariant.searching
 
 pub returns-clause-front : goal.returns-clause-front
 returns-clause-front g c = c.places.invariant.front

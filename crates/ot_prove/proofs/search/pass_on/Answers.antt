@@ -47,16 +47,16 @@ excludes_yes-requires-clause-named g c =
     let A = g.A.Asker in
     let now = c.args.asker.now in
     let asks = c.in-Some.ensures.asks in
-    (asked_literal (A.name_count now) (first_plan (A.plan now) c.args.search.now.path) c.in-Some.lit (A.plan now asks.0) _
-    c.look_at.ensures.fine asks.1.2 c.requires.names).0
+    (asked_literal (A.name_count now) (first_plan (A.plan now) c.args.search.now.path) c.in-Some.lit (A.plan now asks.0)
+    _ c.look_at.ensures.fine asks.1.2 c.requires.names).0
 
 pub excludes_yes-requires-clause-asked : goal.excludes_yes-requires-clause-asked
 excludes_yes-requires-clause-asked g c =
     let A = g.A.Asker in
     let now = c.args.asker.now in
     let asks = c.in-Some.ensures.asks in
-    (asked_literal (A.name_count now) (first_plan (A.plan now) c.args.search.now.path) c.in-Some.lit (A.plan now asks.0) _
-    c.look_at.ensures.fine asks.1.2 c.requires.names).1
+    (asked_literal (A.name_count now) (first_plan (A.plan now) c.args.search.now.path) c.in-Some.lit (A.plan now asks.0)
+    _ c.look_at.ensures.fine asks.1.2 c.requires.names).1
 
 pub overflow_sub-last : goal.overflow_sub-last
 overflow_sub-last g c =
@@ -64,8 +64,8 @@ overflow_sub-last g c =
     let now = c.args.asker.now in
     let s = c.args.search.now in
     let table =
-    first_has_table (A.is_own now) (A.plan now) (A.root now) c.args.budget s.path s.cycles s.tables.items s.tree.tokens s.asked
-    c.requires.opened (rw c.requires.possible at c.requires.searching) in
+    first_has_table (A.is_own now) (A.plan now) (A.root now) c.args.budget s.path s.cycles s.tables.items s.tree.tokens
+    s.asked c.requires.opened (rw c.requires.possible at c.requires.searching) in
     omega (arith, table.0, s.tables.ok.0, c.len-last.ensures)
 
 pub excludes_yes-requires-clause-stands : goal.excludes_yes-requires-clause-stands
@@ -73,6 +73,6 @@ excludes_yes-requires-clause-stands g c =
     let A = g.A.Asker in
     let now = c.args.asker.now in
     let s = c.args.search.now in
-    (first_table_is_read (A.is_own now) (A.plan now) (A.root now) c.args.budget s.path s.cycles s.tables.items s.tree.tokens s.asked
-    c.index.result.now s.tables.len c.len-last.result c.requires.opened (rw c.requires.possible at c.requires.searching) s.tables.ok.0
-    c.len-last.ensures c.index.ensures).1
+    (first_table_is_read (A.is_own now) (A.plan now) (A.root now) c.args.budget s.path
+    s.cycles s.tables.items s.tree.tokens s.asked c.index.result.now s.tables.len c.len-last.result c.requires.opened
+    (rw c.requires.possible at c.requires.searching) s.tables.ok.0 c.len-last.ensures c.index.ensures).1

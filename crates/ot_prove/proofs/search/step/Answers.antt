@@ -9,8 +9,8 @@ close_impossible-requires-clause-known g c =
     let A = g.A.Asker in
     let was = c.args.asker.now in
     let s = c.args.search.now in
-    first_is_judged (A.is_own was) (A.plan was) (A.root was) c.args.budget s.path (known_of s) (reverse s.tables.items) s.tree.tokens
-    s.asked c.requires.opened c.requires.searching
+    first_is_judged (A.is_own was) (A.plan was) (A.root was) c.args.budget s.path (known_of s) (reverse s.tables.items)
+    s.tree.tokens s.asked c.requires.opened c.requires.searching
 
 -- a first place that no integers meet is closed by its cycle
 pub returns-then-branch-clause-step : goal.returns-then-branch-clause-step
@@ -24,8 +24,8 @@ returns-then-branch-clause-step g c =
     (IsSearching-cycle (A.is_own was) (A.plan was) (A.root was) c.args.budget s.path closed.0 (known_of after)
     (reverse s.tables.items) s.tree.tokens s.asked c.requires.opened c.negative_cycles_are_never_met.ensures
     (subst (λ (x : List (Option (List ℕ))).
-    IsSearching (A.is_own was) (A.plan was) (A.root was) c.args.budget s.path x (reverse s.tables.items) s.tree.tokens s.asked) closed.1
-    c.requires.searching))
+    IsSearching (A.is_own was) (A.plan was) (A.root was) c.args.budget s.path x (reverse s.tables.items) s.tree.tokens
+    s.asked) closed.1 c.requires.searching))
 
 pub returns-then-branch-clause-falls : goal.returns-then-branch-clause-falls
 returns-then-branch-clause-falls g c =

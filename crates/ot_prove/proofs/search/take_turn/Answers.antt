@@ -6,12 +6,13 @@ use Rattle.ask_core.specs.declared.tree.Tok.TheVariants.{Ask}
 use Rattle.cert_text.specs.TreeTexts.{with_token}
 use Rattle.ask_core.specs.Paths.{OpenPlace, branches_at, first_answers, first_plan}
 use Rattle.diff_bounds.specs.Kept.{Rows}
-use Rattle.search_places.specs.declared.split.TheConstants.{MAX_NAMES}
+use Rattle.ask_core.specs.declared.asker.TheConstants.{MAX_NAMES}
 use Rattle.search_places.specs.Sides.{IsAsked, StandsForSome, last_rows}
 use Rattle.search_places.specs.Changes.{known_by}
 use Rattle.ot_prove.specs.Searching.{LeadsTo, IsSearching, IsSearchUnderWay, weight_of}
-use Rattle.ot_prove.proofs.Steps.{IsSearching-asked, IsSearching-holds, spent_at_first, failing_at_first, first_is_reached, first_has_table}
-use Rattle.ot_prove.proofs.Steps.{asked_literal, weight_of-asked, weight_of-close, without_last}
+use Rattle.ot_prove.proofs.Steps.{IsSearching-asked, IsSearching-holds, spent_at_first, failing_at_first}
+use Rattle.ot_prove.proofs.Steps.{first_is_reached, first_has_table, asked_literal, weight_of-asked, weight_of-close}
+use Rattle.ot_prove.proofs.Steps.{without_last}
 use Rattle.ot_prove.proofs.search.take_turn.Given.{Over}
 use Rattle.ot_prove.proofs.search.take_turn.Goals.{In-Ask, In_ok-ask-in-Ask}
 use Rattle.ot_prove.proofs.search.take_turn.Goals as goal
@@ -19,7 +20,8 @@ use Rattle.ot_prove.proofs.search.take_turn.Goals as goal
 -- a first place that is known to be possible
 known_first :
     {N W : Type 0} {is_own : N → Type 0} {plan : N → Plan W} {root : Plan W} {budget : ℕ} {places : List (OpenPlace N)}
-    {cycles : List (Option (List ℕ))} {tables : List Rows} {tree : List Tok} {asked : ℕ} (possible : Bool) → possible ≡ true
+    {cycles : List (Option (List ℕ))} {tables : List Rows} {tree : List Tok} {asked : ℕ} (possible : Bool)
+    → possible ≡ true
     → IsSearching is_own plan root budget places (known_by possible cycles) tables tree asked
     → IsSearching is_own plan root budget places (None ∷ cycles) tables tree asked
 known_first true is s = s
@@ -31,23 +33,24 @@ literal g c =
     let A = g.A.Asker in
     let now = c.args.asker.now in
     let begins = rw c.in-Ask.is at c.requires.begins in
-    asked_literal (A.name_count now) (first_plan (A.plan now) c.args.search.now.path) c.in-Ask.lit (A.plan now c.in-Ask.yes)
-    (A.plan now c.in-Ask.no) c.requires.fine begins.2 c.requires.names
+    asked_literal (A.name_count now) (first_plan (A.plan now) c.args.search.now.path) c.in-Ask.lit
+    (A.plan now c.in-Ask.yes) (A.plan now c.in-Ask.no) c.requires.fine begins.2 c.requires.names
 
 -- the table of the first place
-table : (g : Over) (c : In-Ask g) → (0 < length c.args.search.now.tables.items) × StandsForSome MAX_NAMES (last_rows c.args.search.now.tables.items)
+table : (g : Over) (c : In-Ask g)
+    → (0 < length c.args.search.now.tables.items) × StandsForSome MAX_NAMES (last_rows c.args.search.now.tables.items)
 table g c =
     let A = g.A.Asker in
     let now = c.args.asker.now in
     let s = c.args.search.now in
-    first_has_table (A.is_own now) (A.plan now) (A.root now) c.args.budget s.path s.cycles s.tables.items s.tree.tokens s.asked
-    c.requires.opened (known_first s.possible c.requires.possible c.requires.searching)
+    first_has_table (A.is_own now) (A.plan now) (A.root now) c.args.budget s.path s.cycles s.tables.items s.tree.tokens
+    s.asked c.requires.opened (known_first s.possible c.requires.possible c.requires.searching)
 
 -- behind a question the search goes on at the sides that have room
 asked :
     (g : Over) (c : In_ok-ask-in-Ask g)
-    → IsSearchUnderWay (g.A.Asker.is_own c.args.asker.now) (g.A.Asker.plan c.args.asker.now) (g.A.Asker.root c.args.asker.now) c.args.budget
-    c.ask.new.self
+    → IsSearchUnderWay (g.A.Asker.is_own c.args.asker.now) (g.A.Asker.plan c.args.asker.now)
+    (g.A.Asker.root c.args.asker.now) c.args.budget c.ask.new.self
 asked g c =
     let A = g.A.Asker in
     let now = c.args.asker.now in
@@ -70,9 +73,9 @@ falls g c =
     let s = c.args.search.now in
     let begins = rw c.in-Ask.is at c.requires.begins in
     let judged = c.in_ok-ask-in-Ask.ensures.judged in
-    weight_of-asked (g.A.Asker.plan c.args.asker.now) c.in_ok-ask-in-Ask.field-0 judged.0 s.path c.ask.new.self.path s.cycles
-    c.ask.new.self.cycles (with_token s.tree Ask) c.ask.new.self.tree c.in-Ask.lit c.in-Ask.yes c.in-Ask.no c.requires.opened begins.2
-    judged.2
+    weight_of-asked (g.A.Asker.plan c.args.asker.now) c.in_ok-ask-in-Ask.field-0 judged.0 s.path c.ask.new.self.path
+    s.cycles c.ask.new.self.cycles (with_token s.tree Ask) c.ask.new.self.tree c.in-Ask.lit c.in-Ask.yes c.in-Ask.no
+    c.requires.opened begins.2 judged.2
 
 pub returns-then-search-budget-clause-step : goal.returns-then-search-budget-clause-step
 returns-then-search-budget-clause-step g c =
@@ -110,7 +113,11 @@ returns-then-eq-clause-step g c = c.in_ok-pass_on-in-Ask.ensures.searching
 
 pub returns-then-eq-clause-falls : goal.returns-then-eq-clause-falls
 returns-then-eq-clause-falls g c =
-    omega (arith, falls g (goal.at.returns-then-eq-clause-falls g c).In_ok-ask-in-Ask, c.in_ok-pass_on-in-Ask.ensures.falls)
+    omega (
+      arith,
+      falls g (goal.at.returns-then-eq-clause-falls g c).In_ok-ask-in-Ask,
+      c.in_ok-pass_on-in-Ask.ensures.falls,
+    )
 
 -- behind an end that holds the search goes on at the next place
 pub returns-in_ok-close_holds-in-Holds-clause-step : goal.returns-in_ok-close_holds-in-Holds-clause-step
@@ -138,12 +145,13 @@ returns-in-Fails-clause-step g c =
     let begins = rw c.in-Fails.is at c.requires.begins in
     let searching = known_first s.possible c.requires.possible c.requires.searching in
     let reached =
-    first_is_reached (A.is_own now) (A.plan now) (A.root now) c.args.budget s.path _ _ s.tree.tokens s.asked c.requires.opened searching in (
+    first_is_reached (A.is_own now) (A.plan now) (A.root now) c.args.budget s.path _ _ s.tree.tokens s.asked
+    c.requires.opened searching in (
       c.requires.opened,
       record {
         leads = subst (λ (p : Plan g.row.A-Why.Denot). LeadsTo (A.root now) (first_answers s.path) p) begins reached;
         lists = λ q list.
-            failing_at_first (A.is_own now) (A.plan now) (A.root now) c.args.budget s.path s.cycles s.tables.items s.tree.tokens
-            s.asked c.in-Fails.why q searching begins list;
+            failing_at_first (A.is_own now) (A.plan now) (A.root now) c.args.budget s.path s.cycles s.tables.items
+            s.tree.tokens s.asked c.in-Fails.why q searching begins list;
       },
     )

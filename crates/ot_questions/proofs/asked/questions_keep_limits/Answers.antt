@@ -1,6 +1,7 @@
 use Rattle.ot_questions.specs.Asked.{IsBelow}
 use Rattle.ot_questions.proofs.Placed.{OpStands-sym_op}
-use Rattle.ot_questions.proofs.PieceLaws.{kept_fine, kept_like, kept_comparison, kept_guard, kept_result, kept_enabled, kept_allowed, kept_same_form}
+use Rattle.ot_questions.proofs.PieceLaws.{kept_fine, kept_like, kept_comparison, kept_guard, kept_result, kept_enabled}
+use Rattle.ot_questions.proofs.PieceLaws.{kept_allowed, kept_same_form}
 use Rattle.ot_questions.proofs.asked.questions_keep_limits.Goals as goal
 
 pub returns-clause-operations : goal.returns-clause-operations

@@ -1,6 +1,6 @@
 use Rattle.fn_rules.specs.Functions.{Function}
-use Rattle.ot_questions.proofs.PairMeaning.{ArePairsEnough, pair_holds_means, pair_meaning_holds, pairs_mean_at, all_pairs_mean, tp1_holds_pairs_at}
-use Rattle.ot_questions.proofs.PairMeaning.{tp1_holds_all_pairs}
+use Rattle.ot_questions.proofs.PairMeaning.{ArePairsEnough, pair_holds_means, pair_meaning_holds, pairs_mean_at}
+use Rattle.ot_questions.proofs.PairMeaning.{all_pairs_mean, tp1_holds_pairs_at, tp1_holds_all_pairs}
 use Rattle.ot_questions.proofs.meaning.pair_plans_mean_tp1.Goals as goal
 
 -- what the plans of pairs mean, at each length and at all lengths

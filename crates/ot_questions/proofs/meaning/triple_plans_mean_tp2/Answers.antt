@@ -1,6 +1,7 @@
 use Rattle.fn_rules.specs.Functions.{Function}
-use Rattle.ot_questions.proofs.TripleMeaning.{AreTriplesEnough, triple_holds_means, triple_meaning_holds, triples_mean_at, triples_mean, tp2_holds_triples_at}
-use Rattle.ot_questions.proofs.TripleMeaning.{tp2_holds_triples, all_plans_mean_at, all_plans_mean, tp2_holds_all_at, tp2_holds_all}
+use Rattle.ot_questions.proofs.TripleMeaning.{AreTriplesEnough, triple_holds_means, triple_meaning_holds}
+use Rattle.ot_questions.proofs.TripleMeaning.{triples_mean_at, triples_mean, tp2_holds_triples_at, tp2_holds_triples}
+use Rattle.ot_questions.proofs.TripleMeaning.{all_plans_mean_at, all_plans_mean, tp2_holds_all_at, tp2_holds_all}
 use Rattle.ot_questions.proofs.meaning.triple_plans_mean_tp2.Goals as goal
 
 -- what the plans of triples mean, at each length and at all lengths, and with those of pairs

@@ -1,4 +1,5 @@
-use Rattle.ot_questions.proofs.Nears.{sym_thing_near, IsNear-more, IsNear-plus, AreNear-block, ≡-IsTrue, IsResultOf-nop, IsResultOf-same}
+use Rattle.ot_questions.proofs.Nears.{sym_thing_near, IsNear-more, IsNear-plus, AreNear-block, ≡-IsTrue, IsResultOf-nop}
+use Rattle.ot_questions.proofs.Nears.{IsResultOf-same}
 use Rattle.ot_questions.proofs.staying.offsets_stay_near.Goals as goal
 
 pub returns : goal.returns

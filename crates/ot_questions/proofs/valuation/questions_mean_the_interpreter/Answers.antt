@@ -1,4 +1,5 @@
-use Rattle.ot_questions.proofs.QuestionValuations.{guard_ends, result_goes_on, transform_comes_to, enabled_ends, allowed_ends, one_form_found}
+use Rattle.ot_questions.proofs.QuestionValuations.{guard_ends, result_goes_on, transform_comes_to, enabled_ends}
+use Rattle.ot_questions.proofs.QuestionValuations.{allowed_ends, one_form_found}
 use Rattle.ot_questions.proofs.Values.{end-le}
 use Rattle.ot_questions.proofs.valuation.questions_mean_the_interpreter.Goals as goal
 

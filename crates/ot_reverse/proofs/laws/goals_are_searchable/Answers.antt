@@ -11,5 +11,5 @@ returns c = λ f e k l valid other_valid declared.
     searchable f e k l (near_cases (compares_chars k l) (cases_of f k l) (c.cases_are_valid.ensures f k l valid))
     (near_cases (compares_chars k l) (cases_of e k l) (c.cases_are_valid.ensures e k l other_valid))
     c.questions_mean_the_interpreter.ensures.at_most c.answers_lead_to_ends.ensures.ends kept.fine kept.like declared
-    (reversal_kept kept.operations kept.comparison kept.enabled kept.allowed kept.result kept.one_form c.cases_are_valid.ensures f e k l
-    valid other_valid)
+    (reversal_kept kept.operations kept.comparison kept.enabled kept.allowed kept.result kept.one_form
+    c.cases_are_valid.ensures f e k l valid other_valid)

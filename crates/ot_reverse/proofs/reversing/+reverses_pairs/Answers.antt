@@ -10,7 +10,8 @@ use Rattle.ot_reverse.proofs.reversing.+reverses_pairs.Goals as goal
 
 pub reverses_pair-requires-clause-declared : goal.reverses_pair-requires-clause-declared
 reverses_pair-requires-clause-declared t c =
-    first_declared (function_of c.args.rules.now).head c.args.pairs.now (Ins, Ins) c.requires.declared c.in-len1-up.len_at_least
+    first_declared (function_of c.args.rules.now).head c.args.pairs.now (Ins, Ins) c.requires.declared
+    c.in-len1-up.len_at_least
 
 pub reverses_pair-requires-clause-alike : goal.reverses_pair-requires-clause-alike
 reverses_pair-requires-clause-alike t c = c.requires.alike
@@ -30,10 +31,12 @@ returns-in-Yes t c =
     let e = function_of c.args.others.now in
     let pairs = c.args.pairs.now in
     let first = rw c.in-Yes.is at c.in_ok-back-in-len1-up.ensures in
-    IfOk-weaker c.reverses_pairs.result (AreSearched f e c.args.budget (behind pairs)) (AreSearched f e c.args.budget pairs)
-    (λ back. searched_behind f e c.args.budget pairs (Ins, Ins) back c.in-len1-up.len_at_least first) c.reverses_pairs.ensures
+    IfOk-weaker c.reverses_pairs.result (AreSearched f e c.args.budget (behind pairs))
+    (AreSearched f e c.args.budget pairs)
+    (λ back. searched_behind f e c.args.budget pairs (Ins, Ins) back c.in-len1-up.len_at_least first)
+    c.reverses_pairs.ensures
 
 pub returns-in_default : goal.returns-in_default
 returns-in_default t c =
-    searched_first (function_of c.args.rules.now) (function_of c.args.others.now) c.args.budget c.args.pairs.now (Ins, Ins) _
-    c.in-len1-up.len_at_least c.in_default.not-Yes c.in_ok-back-in-len1-up.ensures
+    searched_first (function_of c.args.rules.now) (function_of c.args.others.now) c.args.budget c.args.pairs.now
+    (Ins, Ins) _ c.in-len1-up.len_at_least c.in_default.not-Yes c.in_ok-back-in-len1-up.ensures

@@ -12,13 +12,13 @@ transform-requires-clause-a_declared c =
     let f = function_of c.args.rules.now in
     let e = function_of c.args.others.now in
     form_alike f.head e.head c.args.a.now c.in-Some.there c.requires.alike
-    (c.transform_keeps_all_but_the_position.ensures f c.args.a.now c.args.b.now c.in-Some.there (sym c.requires.form ∙ c.in-Some.is))
-    c.requires.a_declared
+    (c.transform_keeps_all_but_the_position.ensures f c.args.a.now c.args.b.now c.in-Some.there (sym c.requires.form
+    ∙ c.in-Some.is)) c.requires.a_declared
 
 pub transform-requires-clause-b_declared : goal.transform-requires-clause-b_declared
 transform-requires-clause-b_declared c =
-    for_alike (function_of c.args.rules.now).head (function_of c.args.others.now).head (kind_of c.args.b.now) c.requires.alike
-    c.requires.b_declared
+    for_alike (function_of c.args.rules.now).head (function_of c.args.others.now).head (kind_of c.args.b.now)
+    c.requires.alike c.requires.b_declared
 
 pub transform-requires-clause-a_in_range : goal.transform-requires-clause-a_in_range
 transform-requires-clause-a_in_range c =

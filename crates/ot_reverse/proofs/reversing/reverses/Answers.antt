@@ -26,9 +26,13 @@ pub returns : goal.returns
 returns c =
     let f = function_of c.args.rules.now in
     let e = function_of c.args.others.now in
-    let pairs = c.deref.ensures.value ∙ c.in_ok-pairs.ensures ∙ ap (λ (h : Head). declared_pairs h) c.head.ensures.head in
-    IfOk-weaker c.reverses_pairs.result (AreSearched f e c.args.budget c.deref.result.now) (IsReversedAs f e c.args.budget)
+    let pairs = c.deref.ensures.value ∙ c.in_ok-pairs.ensures
+    ∙ ap (λ (h : Head). declared_pairs h) c.head.ensures.head in
+    IfOk-weaker c.reverses_pairs.result (AreSearched f e c.args.budget c.deref.result.now)
+    (IsReversedAs f e c.args.budget)
     (λ answer are.
     let searched = subst (λ (l : List (Kind × Kind)). AreSearched f e c.args.budget l answer) pairs are in
-    record { searched = searched; tells = c.answers_tell_of_all_documents.ensures.whole f e c.args.budget answer searched })
-    c.reverses_pairs.ensures
+    record {
+      searched = searched;
+      tells = c.answers_tell_of_all_documents.ensures.whole f e c.args.budget answer searched;
+    }) c.reverses_pairs.ensures

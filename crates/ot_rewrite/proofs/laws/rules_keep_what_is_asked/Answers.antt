@@ -17,4 +17,5 @@ returns-clause-stops c = goal_stops
 
 pub returns-clause-truth : goal.returns-clause-truth
 returns-clause-truth c = λ f ob g h v valid is_goal e.
-    goal_holds_alike f ob h g v (rule_belongs f ob g h valid is_goal e) is_goal (rule_kept f ob g h valid is_goal e).asked
+    goal_holds_alike f ob h g v (rule_belongs f ob g h valid is_goal e) is_goal
+    (rule_kept f ob g h valid is_goal e).asked

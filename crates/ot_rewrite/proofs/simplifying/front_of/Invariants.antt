@@ -2,7 +2,7 @@ use Rattle.fn_rules.specs.Rules.{function_of}
 use Rattle.ot_terms.specs.Goals.{goal_tree}
 use Rattle.ot_terms.specs.Weights.{goal_weight}
 use Rattle.ot_rewrite.specs.Reaching.{Reaches}
-use Rattle.goal_rules.specs.Steps.{front_tree}
+use Rattle.ot_rewrite.specs.Steps.{front_tree}
 use Rattle.ot_rewrite.proofs.simplifying.front_of.Given as goal
 
 abbrev pub invariant-loop-next : goal.invariant-loop-next

@@ -23,8 +23,8 @@ returns-clause-at_front c =
 pub returns-clause-asks : goal.returns-clause-asks
 returns-clause-asks c =
     let f = function_of c.args.rules.now in
-    placed_keeps (λ g. ask_goal f g ≡ ask_goal f (goal_tree c.args.goal.now)) _ c.placed.result c.in_ok-front_of.ensures.asks
-    c.placed.ensures
+    placed_keeps (λ g. ask_goal f g ≡ ask_goal f (goal_tree c.args.goal.now)) _ c.placed.result
+    c.in_ok-front_of.ensures.asks c.placed.ensures
 
 pub returns-clause-truth : goal.returns-clause-truth
 returns-clause-truth c =

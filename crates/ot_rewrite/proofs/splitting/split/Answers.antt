@@ -2,7 +2,8 @@ use Rattle.std.proofs.Common.{◌≡◌, ◌↔◌, Some, sym, subst}
 use Rattle.std.proofs.lemmas.Result.{IfOk-weaker}
 use Rattle.ot_terms.specs.Forms.{form_tree, form_holds}
 use Rattle.ot_terms.specs.Standing.{ask_form}
-use Rattle.ot_rewrite.specs.Splits.{Yes, No, first_question, EndsInYes, EndsInNo, EndsAtQuestion, split_holds, ask_split, HasFewer, HasSplitPlaces}
+use Rattle.ot_rewrite.specs.Splits.{Yes, No, first_question, EndsInYes, EndsInNo, EndsAtQuestion, split_holds}
+use Rattle.ot_rewrite.specs.Splits.{ask_split, HasFewer, HasSplitPlaces}
 use Rattle.ot_rewrite.proofs.SplitForms.{low_offsets, split_is}
 use Rattle.ot_rewrite.proofs.SplitEnds.{splits_to_yes, splits_to_no, splits_at_question}
 use Rattle.ot_rewrite.proofs.splitting.split.Goals as goal
@@ -26,8 +27,8 @@ pub returns-clause-question : goal.returns-clause-question
 returns-clause-question c =
     let g = form_tree c.args.form.now in
     IfOk-weaker c.split_part.result _ _
-    (λ r is x y. subst (λ s. (first_question s ≡ Some (x, y)) ↔ EndsAtQuestion x y g) (sym is) (splits_at_question g x y))
-    c.split_part.ensures
+    (λ r is x y. subst (λ s. (first_question s ≡ Some (x, y)) ↔ EndsAtQuestion x y g) (sym is)
+    (splits_at_question g x y)) c.split_part.ensures
 
 pub returns-clause-truth : goal.returns-clause-truth
 returns-clause-truth c =

@@ -10,11 +10,13 @@ returns-clause-rule c = c.stepped.ensures
 pub returns-clause-kept : goal.returns-clause-kept
 returns-clause-kept c =
     IfOk-weaker c.stepped.result _ _
-    (step_kept (function_of c.args.rules.now) c.requires.0 c.rules_are_valid.ensures (goal_tree c.args.goal.now) c.requires.1
+    (step_kept (function_of c.args.rules.now) c.requires.0 c.rules_are_valid.ensures
+    (goal_tree c.args.goal.now) c.requires.1
     (λ g. goal_tree g.now)) c.stepped.ensures
 
 pub returns-clause-stops : goal.returns-clause-stops
 returns-clause-stops c =
     IfOk-weaker c.stepped.result _ _
-    (step_stops (function_of c.args.rules.now) c.requires.0 c.rules_are_valid.ensures (goal_tree c.args.goal.now) c.requires.1
+    (step_stops (function_of c.args.rules.now) c.requires.0 c.rules_are_valid.ensures
+    (goal_tree c.args.goal.now) c.requires.1
     (λ g. goal_tree g.now)) c.stepped.ensures

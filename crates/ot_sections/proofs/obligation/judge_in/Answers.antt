@@ -5,7 +5,7 @@ use Rattle.fn_rules.specs.declared.function.ObName.TheVariants.{Pair, Triple}
 use Rattle.fn_rules.specs.Rules.{function_of}
 use Rattle.ask_core.specs.Askers.{has_fine_literals}
 use Rattle.ask_core.specs.Plans.{Plan}
-use Rattle.cert_check.specs.declared.checker.TheConstants.{MAX_NAMES}
+use Rattle.ask_core.specs.declared.asker.TheConstants.{MAX_NAMES}
 use Rattle.ot_questions.specs.declared.why.Why.{Why}
 use Rattle.ot_questions.specs.Names.{name_count}
 use Rattle.ot_questions.specs.Obligation.{plan_of}
@@ -30,7 +30,11 @@ judge_tree_behind-requires-clause-literals g c =
 pub judge_tree_behind-requires-clause-paths : goal.judge_tree_behind-requires-clause-paths
 judge_tree_behind-requires-clause-paths g c =
     rw c.new-asker.ensures.root
-    (omega (arith, c.plans_keep_limits.ensures.short (function_of c.args.rules.now) c.args.ob c.rules_are_valid.ensures))
+    (omega (
+      arith,
+      c.plans_keep_limits.ensures.short (function_of c.args.rules.now) c.args.ob
+          c.rules_are_valid.ensures,
+    ))
 
 pub judge_tree_behind-requires-clause-names : goal.judge_tree_behind-requires-clause-names
 judge_tree_behind-requires-clause-names g c = few_names c.new-asker.result.ob
@@ -50,16 +54,16 @@ returns-clause-closed g c = c.judge_tree_behind.ensures.closed
 pub returns-clause-leads : goal.returns-clause-leads
 returns-clause-leads g c =
     subst
-    (λ (p : Plan Why). OnOk c.judge_tree_behind.result (LeadsAnyway g.F.Feed (stand (fed c.args.reader.now c.args.feed.now) (opened p))
-    (stand (fed c.judge_tree_behind.new.reader c.judge_tree_behind.new.feed) [])))
+    (λ (p : Plan Why). OnOk c.judge_tree_behind.result (LeadsAnyway g.F.Feed (stand (fed c.args.reader.now
+    c.args.feed.now) (opened p)) (stand (fed c.judge_tree_behind.new.reader c.judge_tree_behind.new.feed) [])))
     (ap (λ (p : Plan Why). plan_behind c.premise_below.result p) c.new-asker.ensures.root
     ∙ c.premise_below.ensures.plan (function_of c.args.rules.now) c.args.ob) c.judge_tree_behind.ensures.leads
 
 pub returns-clause-refused : goal.returns-clause-refused
 returns-clause-refused g c =
     subst
-    (λ (p : Plan Why). IfErr c.judge_tree_behind.result (IsRefusedAnyway g.F.Feed (stand (fed c.args.reader.now c.args.feed.now) (opened p))
-    c.judge_tree_behind.new.feed))
+    (λ (p : Plan Why). IfErr c.judge_tree_behind.result
+    (IsRefusedAnyway g.F.Feed (stand (fed c.args.reader.now c.args.feed.now) (opened p)) c.judge_tree_behind.new.feed))
     (ap (λ (p : Plan Why). plan_behind c.premise_below.result p) c.new-asker.ensures.root
     ∙ c.premise_below.ensures.plan (function_of c.args.rules.now) c.args.ob) c.judge_tree_behind.ensures.refused
 

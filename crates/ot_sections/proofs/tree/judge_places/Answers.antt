@@ -6,8 +6,10 @@ use Rattle.cert_check.specs.Judging.{open_branches}
 use Rattle.ot_sections.specs.Feeding.{fed}
 use Rattle.ot_sections.specs.Stands.{IsTreeOf, StandLeads, reader_place_of, stand}
 use Rattle.ot_sections.proofs.Leading.{behind_token, between_parts, leads_on, leads_same}
-use Rattle.ot_sections.proofs.Leaving.{goes_on_by, leaves_as, leaves_on, leaves_with, not_yet, token_no_failure, token_not_early}
-use Rattle.ot_sections.proofs.TreeRun.{counted, leads_token, no_branch, none_open, refused_bytes, refused_token, tree_is}
+use Rattle.ot_sections.proofs.Leaving.{goes_on_by, leaves_as, leaves_on, leaves_with, not_yet, token_no_failure}
+use Rattle.ot_sections.proofs.Leaving.{token_not_early}
+use Rattle.ot_sections.proofs.TreeRun.{counted, leads_token, no_branch, none_open, refused_bytes, refused_token}
+use Rattle.ot_sections.proofs.TreeRun.{tree_is}
 use Rattle.ot_sections.proofs.tree.judge_places.Goals as goal
 
 pub tokens-init : goal.tokens-init
@@ -16,7 +18,8 @@ tokens-init g c = record {
   tree = c.requires.tree;
   same_tree = refl;
   unrefused = c.requires.unrefused;
-  leads = λ plan. leads_same g.F.Feed plan (stand (fed c.args.reader.now c.args.feed.now) (open_branches g.A.Asker.plan c.args.checker.now));
+  leads = λ plan. leads_same g.F.Feed plan
+      (stand (fed c.args.reader.now c.args.feed.now) (open_branches g.A.Asker.plan c.args.checker.now));
   leaves = not_yet g.F.Feed (fed c.args.reader.now c.args.feed.now);
 }
 
@@ -36,50 +39,54 @@ pub returns-in_err-offset-clause-refused : goal.returns-in_err-offset-clause-ref
 returns-in_err-offset-clause-refused g c =
     let p = err_from_is_err_and c.from_residual.result c.from_residual.ensures.1 in
     rw (p.1, p.2)
-    (refused_bytes g.F.Feed (stand (fed c.args.reader.now c.args.feed.now) (open_branches g.A.Asker.plan c.args.checker.now))
-    (fed c.tokens.reader c.tokens.feed) (open_branches g.A.Asker.plan c.tokens.checker) c.tokens.invariant.leads
-    c.next_token.new.feed c.in_err-offset.field-0.0 c.in_err-offset.ensures.misspelt)
+    (refused_bytes g.F.Feed (stand (fed c.args.reader.now c.args.feed.now) (open_branches g.A.Asker.plan
+    c.args.checker.now)) (fed c.tokens.reader c.tokens.feed) (open_branches g.A.Asker.plan c.tokens.checker)
+    c.tokens.invariant.leads c.next_token.new.feed c.in_err-offset.field-0.0 c.in_err-offset.ensures.misspelt)
 
 pub returns-in_err-offset-clause-leaves : goal.returns-in_err-offset-clause-leaves
 returns-in_err-offset-clause-leaves g c =
     let p = err_from_is_err_and c.from_residual.result c.from_residual.ensures.1 in
     rw (p.1, p.2)
-    (leaves_as g.F.Feed (fed c.args.reader.now c.args.feed.now) (fed c.next_token.new.reader c.next_token.new.feed) c.in_err-offset.field-0.0
-    (leaves_on g.F.Feed (fed c.args.reader.now c.args.feed.now) (fed c.tokens.reader c.tokens.feed) (fed c.next_token.new.reader c.next_token.new.feed) _
+    (leaves_as g.F.Feed (fed c.args.reader.now c.args.feed.now) (fed c.next_token.new.reader c.next_token.new.feed)
+    c.in_err-offset.field-0.0
+    (leaves_on g.F.Feed (fed c.args.reader.now c.args.feed.now) (fed c.tokens.reader c.tokens.feed)
+    (fed c.next_token.new.reader c.next_token.new.feed) _
     c.tokens.invariant.leaves (rw c.in_err-offset.was at c.next_token.ensures.leaves)))
 
 pub returns-in-Err-clause-refused : goal.returns-in-Err-clause-refused
 returns-in-Err-clause-refused g c =
     rw c.end_at.ensures
-    (refused_token g.F.Feed (stand (fed c.args.reader.now c.args.feed.now) (open_branches g.A.Asker.plan c.args.checker.now))
-    (fed c.tokens.reader c.tokens.feed) (open_branches g.A.Asker.plan c.tokens.checker) c.tokens.invariant.leads
-    (fed c.next_token.new.reader c.next_token.new.feed) c.in_ok-offset.offset c.next_token.new.tok c.in-Err.end
-    c.in_ok-offset.ensures.token (c.in-Err.ensures.why c.tokens.invariant.unrefused))
+    (refused_token g.F.Feed (stand (fed c.args.reader.now c.args.feed.now)
+    (open_branches g.A.Asker.plan c.args.checker.now)) (fed c.tokens.reader c.tokens.feed) (open_branches g.A.Asker.plan
+    c.tokens.checker) c.tokens.invariant.leads (fed c.next_token.new.reader c.next_token.new.feed) c.in_ok-offset.offset
+    c.next_token.new.tok c.in-Err.end c.in_ok-offset.ensures.token (c.in-Err.ensures.why c.tokens.invariant.unrefused))
 
 pub returns-in-Err-clause-leaves : goal.returns-in-Err-clause-leaves
 returns-in-Err-clause-leaves g c =
     rw c.end_at.ensures
     (leaves_with g.F.Feed (fed c.args.reader.now c.args.feed.now) (fed c.next_token.new.reader c.next_token.new.feed) _
-    (leaves_on g.F.Feed (fed c.args.reader.now c.args.feed.now) (fed c.tokens.reader c.tokens.feed) (fed c.next_token.new.reader c.next_token.new.feed)
-    (Ok tt) c.tokens.invariant.leaves
+    (leaves_on g.F.Feed (fed c.args.reader.now c.args.feed.now) (fed c.tokens.reader c.tokens.feed)
+    (fed c.next_token.new.reader c.next_token.new.feed) (Ok tt) c.tokens.invariant.leaves
     (goes_on_by g.F.Feed (fed c.tokens.reader c.tokens.feed) (fed c.next_token.new.reader c.next_token.new.feed) _
     (rw c.in_ok-offset.was at c.next_token.ensures.leaves)))
     (token_not_early c.in_ok-offset.offset c.in-Err.end) (token_no_failure c.in_ok-offset.offset c.in-Err.end))
 
 pub take_at_hand-requires-clause-between : goal.take_at_hand-requires-clause-between
 take_at_hand-requires-clause-between g c =
-    between_parts g.F.Feed (fed c.tokens.reader c.tokens.feed) (fed c.next_token.new.reader c.next_token.new.feed) _ c.in_ok-offset.ensures.token
+    between_parts g.F.Feed (fed c.tokens.reader c.tokens.feed) (fed c.next_token.new.reader c.next_token.new.feed) _
+    c.in_ok-offset.ensures.token
 
 pub take_at_hand-requires-clause-tree : goal.take_at_hand-requires-clause-tree
 take_at_hand-requires-clause-tree g c =
-    (behind_token g.F.Feed (fed c.tokens.reader c.tokens.feed) (fed c.next_token.new.reader c.next_token.new.feed) c.in_ok-offset.offset
-    c.next_token.new.tok (open_branches g.A.Asker.plan c.tokens.checker) (open_branches g.A.Asker.plan c.judge.new.self)
-    c.in_ok-offset.ensures.token c.tokens.invariant.tree c.in-Ok.ensures.step).0
+    (behind_token g.F.Feed (fed c.tokens.reader c.tokens.feed) (fed c.next_token.new.reader c.next_token.new.feed)
+    c.in_ok-offset.offset c.next_token.new.tok (open_branches g.A.Asker.plan c.tokens.checker) (open_branches
+    g.A.Asker.plan c.judge.new.self) c.in_ok-offset.ensures.token c.tokens.invariant.tree c.in-Ok.ensures.step).0
 
 -- one token more was taken, with those at hand behind it
 pub tokens-preserved : goal.tokens-preserved
 tokens-preserved g c =
-    let behind = behind_token g.F.Feed (fed c.tokens.reader c.tokens.feed) (fed c.next_token.new.reader c.next_token.new.feed) c.in_ok-offset.offset
+    let behind = behind_token g.F.Feed (fed c.tokens.reader c.tokens.feed)
+    (fed c.next_token.new.reader c.next_token.new.feed) c.in_ok-offset.offset
     c.next_token.new.tok (open_branches g.A.Asker.plan c.tokens.checker) (open_branches g.A.Asker.plan c.judge.new.self)
     c.in_ok-offset.ensures.token c.tokens.invariant.tree c.in-Ok.ensures.step in
     record {
@@ -88,10 +95,13 @@ tokens-preserved g c =
       same_tree = c.take_at_hand.ensures.same_tree ∙ behind.1 ∙ c.tokens.invariant.same_tree;
       unrefused = c.take_at_hand.ensures.refusal ∙ c.in-Ok.ensures.none_before.1;
       leads = λ plan.
-          leads_on g.F.Feed plan (stand (fed c.args.reader.now c.args.feed.now) (open_branches g.A.Asker.plan c.args.checker.now))
+          leads_on g.F.Feed plan
+          (stand (fed c.args.reader.now c.args.feed.now) (open_branches g.A.Asker.plan c.args.checker.now))
           (stand (fed c.next_token.new.reader c.next_token.new.feed) (open_branches g.A.Asker.plan c.judge.new.self))
-          (stand (fed c.take_at_hand.new.reader c.take_at_hand.new.feed) (open_branches g.A.Asker.plan c.take_at_hand.new.checker))
-          (leads_token g.F.Feed (stand (fed c.args.reader.now c.args.feed.now) (open_branches g.A.Asker.plan c.args.checker.now))
+          (stand (fed c.take_at_hand.new.reader c.take_at_hand.new.feed)
+          (open_branches g.A.Asker.plan c.take_at_hand.new.checker))
+          (leads_token g.F.Feed
+          (stand (fed c.args.reader.now c.args.feed.now) (open_branches g.A.Asker.plan c.args.checker.now))
           (fed c.tokens.reader c.tokens.feed) (open_branches g.A.Asker.plan c.tokens.checker) c.tokens.invariant.leads
           (fed c.next_token.new.reader c.next_token.new.feed) c.in_ok-offset.offset c.next_token.new.tok
           (open_branches g.A.Asker.plan c.judge.new.self) c.in_ok-offset.ensures.token c.in-Ok.ensures.step plan)
@@ -113,7 +123,8 @@ returns-clause-closed g c =
     no_branch (g.A.Asker.plan c.tokens.checker.asker) c.tokens.checker.places
     (none_open c.is_open.result c.tokens.checker.places c.tokens-test.false c.is_open.ensures) in
     let tree : IsTreeOf 0 (reader_place_of c.tokens.reader) =
-    subst (λ (b : List (Branch _)). IsTreeOf (length b) (reader_place_of c.tokens.reader)) none c.tokens.invariant.tree in
+    subst (λ (b : List (Branch _)). IsTreeOf (length b) (reader_place_of c.tokens.reader)) none
+    c.tokens.invariant.tree in
     (c.tokens.invariant.between, tree_is (reader_place_of c.tokens.reader) 0 tree ∙ c.tokens.invariant.same_tree)
 
 pub returns-clause-leads : goal.returns-clause-leads

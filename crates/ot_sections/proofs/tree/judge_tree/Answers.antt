@@ -7,7 +7,8 @@ use Rattle.ot_sections.proofs.tree.judge_tree.Goals as goal
 
 pub judge_places-requires-clause-tree : goal.judge_places-requires-clause-tree
 judge_places-requires-clause-tree g c =
-    subst (λ (b : List (Branch _)). IsTreeOf (length b) (reader_place_of c.args.reader.now)) (sym c.in_ok-checker.ensures.branches) c.requires.tree
+    subst (λ (b : List (Branch _)). IsTreeOf (length b) (reader_place_of c.args.reader.now))
+    (sym c.in_ok-checker.ensures.branches) c.requires.tree
 
 pub returns-clause-closed : goal.returns-clause-closed
 returns-clause-closed g c = c.judge_places.ensures.closed
@@ -15,15 +16,15 @@ returns-clause-closed g c = c.judge_places.ensures.closed
 pub returns-clause-leads : goal.returns-clause-leads
 returns-clause-leads g c =
     subst
-    (λ (b : List (Branch _)). OnOk c.judge_places.result (LeadsAnyway g.F.Feed (stand (fed c.args.reader.now c.args.feed.now) b)
-    (stand (fed c.judge_places.new.reader c.judge_places.new.feed) [])))
+    (λ (b : List (Branch _)). OnOk c.judge_places.result (LeadsAnyway g.F.Feed (stand (fed c.args.reader.now
+    c.args.feed.now) b) (stand (fed c.judge_places.new.reader c.judge_places.new.feed) [])))
     c.in_ok-checker.ensures.branches c.judge_places.ensures.leads
 
 pub returns-clause-refused : goal.returns-clause-refused
 returns-clause-refused g c =
     subst
-    (λ (b : List (Branch _)). IfErr c.judge_places.result (IsRefusedAnyway g.F.Feed (stand (fed c.args.reader.now c.args.feed.now) b)
-    c.judge_places.new.feed))
+    (λ (b : List (Branch _)). IfErr c.judge_places.result
+    (IsRefusedAnyway g.F.Feed (stand (fed c.args.reader.now c.args.feed.now) b) c.judge_places.new.feed))
     c.in_ok-checker.ensures.branches c.judge_places.ensures.refused
 
 pub returns-clause-leaves : goal.returns-clause-leaves

@@ -17,18 +17,21 @@ returns-in-None-clause-refused g c =
     subst
     (λ p. IfErr c.judge_tree.result (IsRefusedAnyway g.F.Feed (stand (fed c.args.reader.now c.args.feed.now) (opened p))
     c.judge_tree.new.feed))
-    (sym (ap (λ (o : Option Lit). plan_behind o (g.A.Asker.root c.args.asker)) c.in-None.is)) c.judge_tree.ensures.refused
+    (sym (ap (λ (o : Option Lit). plan_behind o (g.A.Asker.root c.args.asker)) c.in-None.is))
+    c.judge_tree.ensures.refused
 
 pub returns-in-Some-clause-leads : goal.returns-in-Some-clause-leads
 returns-in-Some-clause-leads g c =
     subst
-    (λ p. OnOk c.judge_tree-in-Some.result (LeadsAnyway g.F.Feed (stand (fed c.args.reader.now c.args.feed.now) (opened p))
-    (stand {W = g.row.A-Why.Denot} (fed c.judge_tree-in-Some.new.reader c.judge_tree-in-Some.new.feed) [])))
-    (c.new.ensures.root ∙ sym (ap (λ (o : Option Lit). plan_behind o (g.A.Asker.root c.args.asker)) c.in-Some.is)) c.judge_tree-in-Some.ensures.leads
+    (λ p. OnOk c.judge_tree-in-Some.result (LeadsAnyway g.F.Feed (stand (fed c.args.reader.now c.args.feed.now)
+    (opened p)) (stand {W = g.row.A-Why.Denot} (fed c.judge_tree-in-Some.new.reader c.judge_tree-in-Some.new.feed) [])))
+    (c.new.ensures.root ∙ sym (ap (λ (o : Option Lit). plan_behind o (g.A.Asker.root c.args.asker)) c.in-Some.is))
+    c.judge_tree-in-Some.ensures.leads
 
 pub returns-in-Some-clause-refused : goal.returns-in-Some-clause-refused
 returns-in-Some-clause-refused g c =
     subst
-    (λ p. IfErr c.judge_tree-in-Some.result (IsRefusedAnyway g.F.Feed (stand (fed c.args.reader.now c.args.feed.now) (opened p))
-    c.judge_tree-in-Some.new.feed))
-    (c.new.ensures.root ∙ sym (ap (λ (o : Option Lit). plan_behind o (g.A.Asker.root c.args.asker)) c.in-Some.is)) c.judge_tree-in-Some.ensures.refused
+    (λ p. IfErr c.judge_tree-in-Some.result
+    (IsRefusedAnyway g.F.Feed (stand (fed c.args.reader.now c.args.feed.now) (opened p)) c.judge_tree-in-Some.new.feed))
+    (c.new.ensures.root ∙ sym (ap (λ (o : Option Lit). plan_behind o (g.A.Asker.root c.args.asker)) c.in-Some.is))
+    c.judge_tree-in-Some.ensures.refused

@@ -16,9 +16,9 @@ returns-in-Some-clause-token g c =
     let took = took_of g.F.Feed c.args.feed.now c.more.new.self c.consume.new.self c.at_hand.result.now c.in-Some.taken
     (c.at_hand.ensures.hand, c.in-Some.ensures.within) same
     (record { left = c.consume.ensures.left; bound = c.consume.ensures.bound; gave = c.consume.ensures.gave }) in
-    part_comes g.F.Feed (fed c.args.reader.now c.args.feed.now) (fed c.args.reader.now c.args.feed.now) (fed c.feed_token.new.self c.consume.new.self)
-    (not_begun g.F.Feed (fed c.args.reader.now c.args.feed.now) c.requires.between) c.at_hand.result.now c.in-Some.taken _ took
-    c.in-Some.ensures.gives
+    part_comes g.F.Feed (fed c.args.reader.now c.args.feed.now) (fed c.args.reader.now c.args.feed.now)
+    (fed c.feed_token.new.self c.consume.new.self) (not_begun g.F.Feed (fed c.args.reader.now c.args.feed.now)
+    c.requires.between) c.at_hand.result.now c.in-Some.taken _ took c.in-Some.ensures.gives
 
 -- the bytes are misspelt where no token came
 pub returns-in_err-offset-clause-misspelt : goal.returns-in_err-offset-clause-misspelt
@@ -32,9 +32,9 @@ returns-in_err-offset-clause-misspelt g c =
       | else-branch w ↦ w.reader-is
     ] in
     rw (p.1, p.2)
-    (misspelt_asked g.F.Feed c.args.reader.now c.args.feed.now c.more.new.self same c.split_token.new.feed c.in_err-offset.field-0.0
-    (subst (λ (r : ReaderState). IsMisspeltBehind g.F.Feed (fed r c.more.new.self) c.split_token.new.feed c.in_err-offset.field-0.0) reader_is
-    c.in_err-offset.ensures.misspelt))
+    (misspelt_asked g.F.Feed c.args.reader.now c.args.feed.now c.more.new.self same c.split_token.new.feed
+    c.in_err-offset.field-0.0 (subst (λ (r : ReaderState). IsMisspeltBehind g.F.Feed (fed r c.more.new.self)
+    c.split_token.new.feed c.in_err-offset.field-0.0) reader_is c.in_err-offset.ensures.misspelt))
 
 -- a token that does not stand whole at hand came
 pub returns-clause-token : goal.returns-clause-token
@@ -46,7 +46,8 @@ returns-clause-token g c =
       | then-branch+in_default w ↦ w.reader-is ∙ w.in_default.ensures.none
       | else-branch w ↦ w.reader-is
     ] in
-    came_asked g.F.Feed c.args.reader.now c.args.feed.now c.more.new.self same (fed c.split_token.new.reader c.split_token.new.feed)
+    came_asked g.F.Feed c.args.reader.now c.args.feed.now c.more.new.self same
+    (fed c.split_token.new.reader c.split_token.new.feed)
     (record { offset = c.in_ok-offset.offset; part = part.Tok c.in_ok-offset.whole })
     (subst
     (λ (r : ReaderState). Came g.F.Feed (fed r c.more.new.self) (fed c.split_token.new.reader c.split_token.new.feed)
@@ -82,10 +83,11 @@ returns-in_err-offset-clause-leaves g c =
       | else-branch w ↦ w.reader-is
     ] in
     rw (p.1, p.2)
-    (leaves_as g.F.Feed (fed c.args.reader.now c.args.feed.now) (fed c.split_token.new.reader c.split_token.new.feed) c.in_err-offset.field-0.0
-    (leaves_on g.F.Feed (fed c.args.reader.now c.args.feed.now) (fed c.args.reader.now c.more.new.self)
-    (fed c.split_token.new.reader c.split_token.new.feed) _ asked
-    (subst (λ (r : ReaderState). Leaves g.F.Feed (fed r c.more.new.self) (fed c.split_token.new.reader c.split_token.new.feed) (Err c.in_err-offset.field-0.0)) reader_is
+    (leaves_as g.F.Feed (fed c.args.reader.now c.args.feed.now) (fed c.split_token.new.reader c.split_token.new.feed)
+    c.in_err-offset.field-0.0 (leaves_on g.F.Feed (fed c.args.reader.now c.args.feed.now)
+    (fed c.args.reader.now c.more.new.self) (fed c.split_token.new.reader c.split_token.new.feed) _ asked
+    (subst (λ (r : ReaderState). Leaves g.F.Feed (fed r c.more.new.self)
+    (fed c.split_token.new.reader c.split_token.new.feed) (Err c.in_err-offset.field-0.0)) reader_is
     (rw c.in_err-offset.was at c.split_token.ensures.leaves))))
 
 pub returns-clause-leaves : goal.returns-clause-leaves
@@ -103,8 +105,8 @@ returns-clause-leaves g c =
     ] in
     leaves_on g.F.Feed (fed c.args.reader.now c.args.feed.now) (fed c.args.reader.now c.more.new.self)
     (fed c.split_token.new.reader c.split_token.new.feed) (Ok _) asked
-    (goes_on_with g.F.Feed (fed c.args.reader.now c.more.new.self) (fed c.split_token.new.reader c.split_token.new.feed) _
-    (goes_on_by g.F.Feed (fed c.args.reader.now c.more.new.self) (fed c.split_token.new.reader c.split_token.new.feed) _
-    (subst (λ (r : ReaderState). Leaves g.F.Feed (fed r c.more.new.self) (fed c.split_token.new.reader c.split_token.new.feed)
-    (Ok (c.in_ok-offset.offset, c.in_ok-offset.whole))) reader_is
+    (goes_on_with g.F.Feed (fed c.args.reader.now c.more.new.self) (fed c.split_token.new.reader c.split_token.new.feed)
+    _ (goes_on_by g.F.Feed (fed c.args.reader.now c.more.new.self) (fed c.split_token.new.reader c.split_token.new.feed)
+    _ (subst (λ (r : ReaderState). Leaves g.F.Feed (fed r c.more.new.self)
+    (fed c.split_token.new.reader c.split_token.new.feed) (Ok (c.in_ok-offset.offset, c.in_ok-offset.whole))) reader_is
     (rw c.in_ok-offset.was at c.split_token.ensures.leaves))))

@@ -9,7 +9,8 @@ pub pass-requires-clause-tokens : goal.pass-requires-clause-tokens
 pass-requires-clause-tokens g c =
     let took = c.take_tokens-taken in
     subst (IsPassed c.args.reader.now (take took.result.0 c.at_hand-bytes.result.now)) (sym took.ensures.count)
-    (taken_passed c.args.reader.now (take took.result.0 c.at_hand-bytes.result.now) (open_branches g.A.Asker.plan c.args.checker.now)
+    (taken_passed c.args.reader.now (take took.result.0 c.at_hand-bytes.result.now)
+    (open_branches g.A.Asker.plan c.args.checker.now)
     (open_branches g.A.Asker.plan took.new.checker) c.requires.between c.requires.tree took.ensures.taken)
 
 -- the tokens that were taken lead behind them

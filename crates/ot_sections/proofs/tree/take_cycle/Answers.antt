@@ -14,7 +14,8 @@ returns-clause-taken g c =
     cycle_taken lits c.args.rest.now c.in_ok-len.len (open_branches g.A.Asker.plan c.args.checker.now)
     (open_branches g.A.Asker.plan c.close.new.self) front
     (c.close.ensures.taken front.1.0
-    (subst (λ (l : List Lit). pick_verdict l front.1.0 ≡ Ok tt) (sym c.in_ok-last.ensures.cases.0 ∙ c.answers.ensures) front.1.3))
+    (subst (λ (l : List Lit). pick_verdict l front.1.0 ≡ Ok tt) (sym c.in_ok-last.ensures.cases.0
+    ∙ c.answers.ensures) front.1.3))
 
 -- a cycle leaves one place less open
 pub returns-clause-count : goal.returns-clause-count
@@ -22,7 +23,8 @@ returns-clause-count g c =
     let front = c.in_ok-len.ensures in
     let taken =
     c.close.ensures.taken front.1.0
-    (subst (λ (l : List Lit). pick_verdict l front.1.0 ≡ Ok tt) (sym c.in_ok-last.ensures.cases.0 ∙ c.answers.ensures) front.1.3) in
+    (subst (λ (l : List Lit). pick_verdict l front.1.0 ≡ Ok tt) (sym c.in_ok-last.ensures.cases.0
+    ∙ c.answers.ensures) front.1.3) in
     omega (
       arith,
       c.requires.count,

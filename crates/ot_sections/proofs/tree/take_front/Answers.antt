@@ -10,6 +10,7 @@ returns-in-46-clause-taken g c =
     let old = open_branches g.A.Asker.plan c.args.checker.now in
     let new = open_branches g.A.Asker.plan c.takes.new.self in
     let rest = c.in_ok-first.rest.now in
-    let bytes_are : c.args.bytes.now ≡ 46 ∷ rest = c.in_ok-first.ensures.cases.0 ∙ ap (λ (b : ℕ). b ∷ rest) c.in-46.is in
+    let bytes_are : c.args.bytes.now ≡ 46 ∷ rest = c.in_ok-first.ensures.cases.0
+    ∙ ap (λ (b : ℕ). b ∷ rest) c.in-46.is in
     subst (λ (l : List ℕ). AreTakenFront old new l 1) (sym bytes_are)
     (byte_taken 46 rest token.Holds old new tt refl (c.takes.ensures.taken c.if-takes.true))

@@ -20,7 +20,8 @@ returns-in-true-clause-taken g c =
     let lit = c.in_ok-question.question.lit in
     let front = c.in-Some.ensures in
     let first : c.in-Some-eq120-default.field-0-0.now ≡ 120 = c.in-Some-eq120-default.field-0-0-test in
-    let rest_is : c.args.rest.now ≡ 120 ∷ behind = c.in-Some-eq120-default.ensures.cases.0 ∙ ap (λ (b : ℕ). b ∷ behind) first in
+    let rest_is : c.args.rest.now ≡ 120 ∷ behind = c.in-Some-eq120-default.ensures.cases.0
+    ∙ ap (λ (b : ℕ). b ∷ behind) first in
     let skips =
     subst (λ (b : List (Branch _)). SkipsTo front.1.0 b new) c.question.ensures.same
     (c.skip.ensures.taken c.in-true.is front.1.0
@@ -51,7 +52,8 @@ pub returns-in-true-ask-clause-taken : goal.returns-in-true-ask-clause-taken
 returns-in-true-ask-clause-taken g c =
     let new = open_branches g.A.Asker.plan c.ask.new.self in
     byte_taken 63 c.args.rest.now token.Ask (open_branches g.A.Asker.plan c.args.checker.now) new tt refl
-    (subst (λ (b : List (Branch _)). after token.Ask b ≡ Ok new) c.question.ensures.same (c.ask.ensures.taken c.in-true-ask.is))
+    (subst (λ (b : List (Branch _)). after token.Ask b ≡ Ok new) c.question.ensures.same
+    (c.ask.ensures.taken c.in-true-ask.is))
 
 -- the question leaves one place more open
 pub returns-in-true-ask-clause-count : goal.returns-in-true-ask-clause-count
@@ -61,7 +63,8 @@ returns-in-true-ask-clause-count g c =
       arith,
       c.requires.count,
       open_as_counted token.Ask (open_branches g.A.Asker.plan c.args.checker.now) new
-          (subst (λ (b : List (Branch _)). after token.Ask b ≡ Ok new) c.question.ensures.same (c.ask.ensures.taken c.in-true-ask.is)),
+          (subst (λ (b : List (Branch _)). after token.Ask b ≡ Ok new) c.question.ensures.same
+          (c.ask.ensures.taken c.in-true-ask.is)),
     )
 
 pub returns-in-true-ask-clause-refusal : goal.returns-in-true-ask-clause-refusal
@@ -87,5 +90,6 @@ skip-requires-clause-cycle g c =
     let front = c.in-Some.ensures in (
       front.1.0,
       front.1.1.1,
-      subst (λ (l : List Lit). pick_verdict (l ++ c.in_ok-question.question.lit ∷ []) front.1.0 ≡ Ok tt) c.answers.ensures front.1.3,
+      subst (λ (l : List Lit). pick_verdict (l ++ c.in_ok-question.question.lit ∷ []) front.1.0 ≡ Ok tt)
+          c.answers.ensures front.1.3,
     )

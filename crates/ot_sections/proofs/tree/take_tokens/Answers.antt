@@ -1,6 +1,6 @@
 use Rattle.std.proofs.Common.{◌+◌, take, drop, take-add, length-drop, arith, ◌∙◌}
 use Rattle.cert_check.specs.Judging.{open_branches}
-use Rattle.text_cycles.proofs.Numbers.{bytes_from}
+use Rattle.ot_sections.proofs.Numbers.{bytes_from}
 use Rattle.ot_sections.proofs.Taking.{more_taken}
 use Rattle.ot_sections.proofs.tree.take_tokens.Goals as goal
 
@@ -16,7 +16,8 @@ tokens-preserved g c =
       within = omega (arith, front.0, length-drop at bytes, c.tokens.invariant.within);
       taken =
           more_taken (take at bytes) (drop at bytes) (take (at + c.in-Some.len) bytes) c.in-Some.len
-          (open_branches g.A.Asker.plan c.args.checker.now) was now c.tokens.invariant.taken front (take-add at c.in-Some.len bytes);
+          (open_branches g.A.Asker.plan c.args.checker.now) was now c.tokens.invariant.taken front
+          (take-add at c.in-Some.len bytes);
       count = c.in-Some.ensures.count;
       few = omega (arith, c.in-Some.ensures.few, c.tokens.invariant.few);
       refusal = c.take_front.ensures.refusal ∙ c.tokens.invariant.refusal;

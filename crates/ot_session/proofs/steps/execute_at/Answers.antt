@@ -1,4 +1,5 @@
-use Rattle.std.proofs.Common.{◌≡◌, ◌++◌, ◌∷◌, [], ℕ, Bool, List, length, map, Option, Some, Err, IfSome, refl, sym, ap, ◌∙◌, get_or, subst, arith}
+use Rattle.std.proofs.Common.{◌≡◌, ◌++◌, ◌∷◌, [], ℕ, Bool, List, length, map, Option, Some, Err, IfSome, refl, sym, ap}
+use Rattle.std.proofs.Common.{◌∙◌, get_or, subst, arith}
 use Rattle.std.specs.Prelude.{slice_get}
 use Rattle.std.specs.List.{AllByRecursion}
 use Rattle.std.proofs.lemmas.List.{set-get_or}
@@ -24,7 +25,8 @@ execute-requires c =
     let was = slice_get_read sites (length sites) c.args.place site refl c.requires.place c.index-sites-place.is in
     ∥∥₁_elim c.requires.room le_prop
     (λ marked.
-    let room : length site.integrated ≡ MAX_MADE = (AllByRecursion-at IsMarked sites c.args.place site marked was).integrated in
+    let room : length site.integrated ≡ MAX_MADE =
+    (AllByRecursion-at IsMarked sites c.args.place site marked was).integrated in
     rw (← c.index-sites-place.is) (omega (arith, room, c.requires.few, c.len-number.ensures)))
 
 -- the site at the place executed the operation, which was put behind those made
@@ -34,16 +36,19 @@ returns-in-Ok-clause-ok c =
     let made : List Made = c.args.made.now.items in
     let site : Site = c.index-sites-place.result in
     let number : c.len-number.result ≡ length made = c.len-number.ensures ∙ c.args.made.now.ok.0 in
-    let executed : Executes c.args.mode c.len-number.result c.args.op (get_or sites c.args.place site) c.execute.new.self = c.in-Ok.ensures.ok in
+    let executed : Executes c.args.mode c.len-number.result c.args.op (get_or sites c.args.place site)
+    c.execute.new.self = c.in-Ok.ensures.ok in
     record {
       before = site;
       after = c.execute.new.self;
       was = slice_get_read sites (length sites) c.args.place site refl c.requires.place c.index-sites-place.is;
       is = refl;
       executes = subst (λ (n : ℕ). Executes c.args.mode n c.args.op site c.execute.new.self) number
-          (subst (λ (old : Site). Executes c.args.mode c.len-number.result c.args.op old c.execute.new.self) (sym c.index-sites-place.is) executed);
+          (subst (λ (old : Site). Executes c.args.mode c.len-number.result c.args.op old c.execute.new.self)
+          (sym c.index-sites-place.is) executed);
       made = c.push_reserved.ensures.items
-          ∙ ap (λ (ms : List Made). ms ++ record { op = c.args.op; known = c.in_ok-known.known } ∷ []) c.in_ok-reserve.ensures.items
+          ∙ ap (λ (ms : List Made). ms ++ record { op = c.args.op; known = c.in_ok-known.known } ∷ [])
+          c.in_ok-reserve.ensures.items
           ∙ ap (λ (marks : List Bool). made ++ record { op = c.args.op; known = marks } ∷ [])
           (c.in_ok-known.ensures ∙ ap (λ (old : Site). old.integrated) (sym c.index-sites-place.is));
     }
@@ -62,7 +67,8 @@ returns-in-Err-NoMemory-clause-sorted c = λ n all.
     let was : slice_get sites c.args.place ≡ Some site =
     slice_get_read sites (length sites) c.args.place site refl c.requires.place c.index-sites-place.is in
     let same : IsSameSite site c.execute.new.self =
-    subst (λ (old : Site). IsSameSite old c.execute.new.self) (sym c.index-sites-place.is) c.in-Err-NoMemory.ensures.err in
+    subst (λ (old : Site). IsSameSite old c.execute.new.self) (sym c.index-sites-place.is)
+    c.in-Err-NoMemory.ensures.err in
     AllByRecursion-set (IsSorted n) sites c.args.place c.execute.new.self all
     (IsSorted-same n site c.execute.new.self same (AllByRecursion-at (IsSorted n) sites c.args.place site all was))
 
@@ -88,4 +94,5 @@ returns-in_err-known-clause-sites c =
 pub returns-in_err-known-clause-sorted : goal.returns-in_err-known-clause-sorted
 returns-in_err-known-clause-sorted c =
     OnErr-always c.from_residual-in_err-known.result
-    (λ n. subst (λ (ss : List Site). AllByRecursion (IsSorted n) ss) (sym (set-get_or c.args.sites.now c.args.place c.index-sites-place.result)))
+    (λ n. subst (λ (ss : List Site). AllByRecursion (IsSorted n) ss)
+    (sym (set-get_or c.args.sites.now c.args.place c.index-sites-place.result)))

@@ -1,4 +1,5 @@
-use Rattle.std.proofs.Common.{◌≡◌, ◌<◌, ◌≤◌, ◌-◌, ◌++◌, ◌∷◌, [], ℕ, Bool, List, Err, length, length-append, Option, refl, sym, ap, subst, arith, reverse, IfSome}
+use Rattle.std.proofs.Common.{◌≡◌, ◌<◌, ◌≤◌, ◌-◌, ◌++◌, ◌∷◌, [], ℕ, Bool, List, Err, length, length-append, Option}
+use Rattle.std.proofs.Common.{refl, sym, ap, subst, arith, reverse, IfSome}
 use Rattle.std.specs.Coded.{le_prop}
 use Rattle.std.proofs.Math.Logic.{∥∥₁_elim, ∥∥₁_map}
 use Rattle.fn_rules.specs.Rules.{function_of}
@@ -8,9 +9,11 @@ use Rattle.ot_session.specs.declared.form.FormError.{FormError}
 use Rattle.ot_session.specs.declared.site.Site.{Site}
 use Rattle.ot_session.specs.Past.{is_marked, past_of}
 use Rattle.ot_session.specs.Sites.{SiteView, view_site, IsSorted}
-use Rattle.ot_session.specs.Taking.{standing, HasIntegrated, IsTurn, IsCourse, start, then, IsDueByMarks, IsLeastByMarks}
+use Rattle.ot_session.specs.Taking.{standing, HasIntegrated, IsTurn, IsCourse, start, then, IsDueByMarks}
+use Rattle.ot_session.specs.Taking.{IsLeastByMarks}
 use Rattle.ot_session.proofs.Views.{view_site-same}
-use Rattle.ot_session.proofs.Turns.{Takes-lacked, IsTurn-later, IsNext-unknown, IsSorted-same, IsLeastDue-marked, IsNext-due, NoneIsDue-marked}
+use Rattle.ot_session.proofs.Turns.{Takes-lacked, IsTurn-later, IsNext-unknown, IsSorted-same, IsLeastDue-marked}
+use Rattle.ot_session.proofs.Turns.{IsNext-due, NoneIsDue-marked}
 use Rattle.ot_session.proofs.taking.integrate_all.Goals as goal
 
 -- the course begins with the operation itself
@@ -22,7 +25,8 @@ loop-next-init c =
     let old : Site = c.args.site.now in
     let view : SiteView = view_site old in
     record {
-      course = subst (λ (done : List ℕ). IsCourse f past n (standing old c.args.total.now) done (standing old c.args.total.now)) (sym c.new-done.ensures) start;
+      course = subst (λ (done : List ℕ). IsCourse f past n (standing old c.args.total.now) done
+          (standing old c.args.total.now)) (sym c.new-done.ensures) start;
       can = c.requires.can;
       some = c.requires.total;
       within = c.requires.within;
@@ -46,10 +50,12 @@ pub returns-in_err-push-clause-takes : goal.returns-in_err-push-clause-takes
 returns-in_err-push-clause-takes c =
     let old = standing c.args.site.now c.args.total.now in
     let mid = standing c.loop-next.site c.loop-next.total in
-    Takes-lacked (function_of c.args.rules.now) (past_of c.args.made.now) c.args.number old mid c.from_residual.result c.from_residual.ensures.1 (record {
+    Takes-lacked (function_of c.args.rules.now) (past_of c.args.made.now) c.args.number old mid c.from_residual.result
+    c.from_residual.ensures.1 (record {
       done = c.loop-next.done;
       mid = mid;
-      integrates = record { unknown = c.requires.unknown; ready = c.requires.ready; course = c.loop-next.invariant.course };
+      integrates =
+          record { unknown = c.requires.unknown; ready = c.requires.ready; course = c.loop-next.invariant.course };
       site = refl;
       counted = omega arith;
     })
@@ -89,15 +95,18 @@ returns-in-Err-NoMemory-clause-takes c = record {
 
 pub returns-in-Err-NoForm-clause-sorted : goal.returns-in-Err-NoForm-clause-sorted
 returns-in-Err-NoForm-clause-sorted c = ∥∥₁_map c.loop-next.invariant.can
-    (λ k. IsSorted-same (length c.args.made.now) c.loop-next.site c.integrate.new.site c.in-Err-NoForm.ensures.err k.sorted)
+    (λ k. IsSorted-same (length c.args.made.now) c.loop-next.site c.integrate.new.site
+    c.in-Err-NoForm.ensures.err k.sorted)
 
 pub returns-in-Err-Spent-clause-sorted : goal.returns-in-Err-Spent-clause-sorted
 returns-in-Err-Spent-clause-sorted c = ∥∥₁_map c.loop-next.invariant.can
-    (λ k. IsSorted-same (length c.args.made.now) c.loop-next.site c.integrate.new.site c.in-Err-Spent.ensures.err k.sorted)
+    (λ k. IsSorted-same (length c.args.made.now) c.loop-next.site c.integrate.new.site
+    c.in-Err-Spent.ensures.err k.sorted)
 
 pub returns-in-Err-NoMemory-clause-sorted : goal.returns-in-Err-NoMemory-clause-sorted
 returns-in-Err-NoMemory-clause-sorted c = ∥∥₁_map c.loop-next.invariant.can
-    (λ k. IsSorted-same (length c.args.made.now) c.loop-next.site c.integrate.new.site c.in-Err-NoMemory.ensures.err k.sorted)
+    (λ k. IsSorted-same (length c.args.made.now) c.loop-next.site c.integrate.new.site
+    c.in-Err-NoMemory.ensures.err k.sorted)
 
 -- one operation more is integrated, of those that were made
 pub loop-next-smaller : goal.loop-next-smaller
@@ -107,9 +116,11 @@ loop-next-smaller c =
     let old : Site = c.loop-next.site in
     let new : Site = c.integrate.new.site in
     let one : ℕ = c.in-Some.one in
-    let step : HasIntegrated f past one (standing old c.loop-next.total) (standing new c.integrate.new.total) = c.in-Ok.ensures.ok in
+    let step : HasIntegrated f past one (standing old c.loop-next.total) (standing new c.integrate.new.total) =
+    c.in-Ok.ensures.ok in
     let longer : length (reverse new.seen.items) ≡ length (one ∷ reverse old.seen.items) = ap length step.seen in
-    let less : length c.args.made.now - length (reverse new.seen.items) < length c.args.made.now - length (reverse old.seen.items) =
+    let less : length c.args.made.now - length (reverse new.seen.items)
+    < length c.args.made.now - length (reverse old.seen.items) =
     ∥∥₁_elim c.loop-next.invariant.can le_prop (λ k.
     let few : length (one ∷ reverse old.seen.items) ≤ length c.args.made.now =
     c.members_were_made.ensures.few past (one ∷ reverse old.seen.items) (step.next, k.closed) in
@@ -127,26 +138,29 @@ loop-next-preserved c =
     let view : SiteView = view_site new in
     let one : ℕ = c.in-Some.one in
     let done : List ℕ = c.loop-next.done in
-    let step : HasIntegrated f past one (standing old c.loop-next.total) (standing new c.integrate.new.total) = c.in-Ok.ensures.ok in
+    let step : HasIntegrated f past one (standing old c.loop-next.total) (standing new c.integrate.new.total) =
+    c.in-Ok.ensures.ok in
     let pushed : c.push.new.self ≡ done ++ one ∷ [] = c.in_ok-push.ensures.ok in
     let sorted : ∥ IsSorted past.count new ∥₁ = ∥∥₁_map c.in-Ok.ensures.can (λ k. k.sorted) in
-    let some : IfSome c.least_due-next.result (λ o. IsLeastByMarks past (is_marked new.integrated) (is_marked new.held) o) =
-    subst (λ (held : List Bool). IfSome c.least_due-next.result (λ o. IsLeastByMarks past (is_marked new.integrated) (is_marked held) o))
-    c.as_slice-in-Some.ensures
+    let some : IfSome c.least_due-next.result
+    (λ o. IsLeastByMarks past (is_marked new.integrated) (is_marked new.held) o) =
+    subst (λ (held : List Bool). IfSome c.least_due-next.result
+    (λ o. IsLeastByMarks past (is_marked new.integrated) (is_marked held) o)) c.as_slice-in-Some.ensures
     (subst (λ (integrated : List Bool). IfSome c.least_due-next.result
     (λ o. IsLeastByMarks past (is_marked integrated) (is_marked c.as_slice-in-Some.result.now) o))
     c.as_slice.ensures c.least_due-next.ensures.some) in
     record {
-      course = subst (λ (d : List ℕ). IsCourse f past n (standing c.args.site.now c.args.total.now) d (standing new c.integrate.new.total)) (sym pushed)
-          (then done (standing old c.loop-next.total) (standing new c.integrate.new.total) one c.loop-next.invariant.course
-          (c.loop-next.invariant.turn one c.in-Some.is).0 step);
+      course = subst (λ (d : List ℕ). IsCourse f past n (standing c.args.site.now c.args.total.now)
+          d (standing new c.integrate.new.total)) (sym pushed) (then done (standing old c.loop-next.total) (standing new
+          c.integrate.new.total) one c.loop-next.invariant.course (c.loop-next.invariant.turn one c.in-Some.is).0 step);
       can = c.in-Ok.ensures.can;
       some = omega (arith, step.counted, c.loop-next.invariant.some);
       within = c.integrate.ensures.within;
       more = omega (arith, c.loop-next.invariant.more, c.integrate.ensures.more);
       turn = λ o is. (
           let least : IsLeastByMarks past (is_marked new.integrated) (is_marked new.held) o =
-          subst (λ (r : Option ℕ). IfSome r (λ m. IsLeastByMarks past (is_marked new.integrated) (is_marked new.held) m)) is some in (
+          subst (λ (r : Option ℕ). IfSome r
+          (λ m. IsLeastByMarks past (is_marked new.integrated) (is_marked new.held) m)) is some in (
             subst (λ (d : List ℕ). IsTurn past n d view o) (sym pushed)
                 (IsTurn-later past n done one view o (IsLeastDue-marked past new sorted o least)),
             IsNext-due past new sorted o least,
@@ -155,8 +169,10 @@ loop-next-preserved c =
         omega (arith, ap length pushed, length-append done (one ∷ [])),
         NoneIsDue-marked past new sorted (λ x made due.
             c.least_due-next.ensures.none none x made
-            (subst (λ (held : List Bool). IsDueByMarks past (is_marked c.as_slice.result.now) (is_marked held) x) (sym c.as_slice-in-Some.ensures)
-            (subst (λ (integrated : List Bool). IsDueByMarks past (is_marked integrated) (is_marked new.held) x) (sym c.as_slice.ensures) due))),
+            (subst (λ (held : List Bool). IsDueByMarks past (is_marked c.as_slice.result.now) (is_marked held) x)
+            (sym c.as_slice-in-Some.ensures)
+            (subst (λ (integrated : List Bool). IsDueByMarks past (is_marked integrated) (is_marked new.held) x)
+            (sym c.as_slice.ensures) due))),
       );
     }
 

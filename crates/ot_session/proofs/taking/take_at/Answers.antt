@@ -1,4 +1,5 @@
-use Rattle.std.proofs.Common.{◌≡◌, ◌≤◌, [], ◌∷◌, List, length, Option, Some, Result, Ok, Err, refl, sym, subst, reverse, IfSome, OnOk}
+use Rattle.std.proofs.Common.{◌≡◌, ◌≤◌, [], ◌∷◌, List, length, Option, Some, Result, Ok, Err, refl, sym, subst, reverse}
+use Rattle.std.proofs.Common.{IfSome, OnOk}
 use Rattle.std.specs.Prelude.{slice_get, slice_set}
 use Rattle.std.specs.List.{AllByRecursion}
 use Rattle.std.proofs.Math.Logic.{∥∥₁_map, ∥∥₁_map₂}
@@ -18,7 +19,8 @@ OnOk-map : {T E : Type 0} (P Q : Type 0) (r : Result T E) → (P → Q) → OnOk
 OnOk-map P Q (Ok x) keeps is = keeps is
 OnOk-map P Q (Err e) keeps is = tt
 
-sorted-can : (f : Function) (past : Past) (sites : List Site) → AllByRecursion (CanTake f past) sites → AllByRecursion (IsSorted past.count) sites
+sorted-can : (f : Function) (past : Past) (sites : List Site) → AllByRecursion (CanTake f past) sites
+    → AllByRecursion (IsSorted past.count) sites
 sorted-can f past [] all = tt
 sorted-can f past (s ∷ sites) all = (all.0.sorted, sorted-can f past sites all.1)
 
@@ -41,7 +43,8 @@ take_here-requires-clause-total c =
     let was : slice_get sites c.args.place ≡ Some site =
     slice_get_read sites (length sites) c.args.place site refl c.requires.place c.index-sites-place.is in
     let some : length (counted past (reverse site.seen.items)) ≤ c.args.total.now =
-    subst (λ (found : Option Site). IfSome found (λ s. length (counted past (reverse s.seen.items)) ≤ c.args.total.now)) was c.requires.total in
+    subst (λ (found : Option Site). IfSome found (λ s. length (counted past (reverse s.seen.items)) ≤ c.args.total.now))
+    was c.requires.total in
     subst (λ (s : Site). length (counted past (reverse s.seen.items)) ≤ c.args.total.now) c.index-sites-place.is some
 
 -- the site at the place takes the operation
@@ -56,8 +59,8 @@ returns-clause-takes c =
       after = c.take_here.new.site;
       was = slice_get_read sites (length sites) c.args.place site refl c.requires.place c.index-sites-place.is;
       is = refl;
-      takes = subst (λ (s : Site). Takes f past c.args.number (standing s c.args.total.now) (standing c.take_here.new.site c.take_here.new.total)
-          c.take_here.result)
+      takes = subst (λ (s : Site). Takes f past c.args.number (standing s c.args.total.now)
+          (standing c.take_here.new.site c.take_here.new.total) c.take_here.result)
           (sym c.index-sites-place.is) c.take_here.ensures.takes;
     }
 
@@ -66,7 +69,8 @@ returns-clause-sorted c =
     let f : Function = function_of c.args.rules.now in
     let past : Past = past_of c.args.made.now in
     ∥∥₁_map₂ c.requires.can c.take_here.ensures.sorted (λ all one.
-    AllByRecursion-set (IsSorted past.count) c.args.sites.now c.args.place c.take_here.new.site (sorted-can f past c.args.sites.now all) one)
+    AllByRecursion-set (IsSorted past.count) c.args.sites.now c.args.place c.take_here.new.site
+    (sorted-can f past c.args.sites.now all) one)
 
 pub returns-clause-can : goal.returns-clause-can
 returns-clause-can c =

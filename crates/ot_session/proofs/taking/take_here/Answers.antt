@@ -16,7 +16,8 @@ returns-then-is_marked-clause-takes c =
     let n : ℕ = c.args.number in
     record {
       known = inl (sym (marks (past_of c.args.made.now) site (∥∥₁_map c.requires.can (λ k. k.sorted)) n)
-          ∙ ap (λ (m : List Bool). is_marked m n) (sym c.as_slice.ensures) ∙ sym c.is_marked.ensures ∙ c.if-is_marked.true);
+          ∙ ap (λ (m : List Bool). is_marked m n) (sym c.as_slice.ensures)
+          ∙ sym c.is_marked.ensures ∙ c.if-is_marked.true);
       same = refl;
     }
 
@@ -25,7 +26,8 @@ pub returns-then-is_marked-2-clause-takes : goal.returns-then-is_marked-2-clause
 returns-then-is_marked-2-clause-takes c =
     let n : ℕ = c.args.number in
     record {
-      known = inr (ap (λ (m : List Bool). is_marked m n) (sym c.as_slice-2.ensures) ∙ sym c.is_marked-2.ensures ∙ c.if-is_marked-2.true);
+      known = inr (ap (λ (m : List Bool). is_marked m n) (sym c.as_slice-2.ensures) ∙ sym c.is_marked-2.ensures
+          ∙ c.if-is_marked-2.true);
       same = refl;
     }
 
@@ -36,7 +38,8 @@ pub returns-then-is_marked-2-clause-sorted : goal.returns-then-is_marked-2-claus
 returns-then-is_marked-2-clause-sorted c = ∥∥₁_map c.requires.can (λ k. k.sorted)
 
 pub set-requires : goal.set-requires
-set-requires c = ∥∥₁_elim c.requires.can le_prop (λ k. omega (arith, k.sorted.marked.held, c.requires.made, c.requires.few))
+set-requires c =
+    ∥∥₁_elim c.requires.can le_prop (λ k. omega (arith, k.sorted.marked.held, c.requires.made, c.requires.few))
 
 -- something before the operation is missing, so it is held
 pub returns-then-not-knows_all-clause-takes : goal.returns-then-not-knows_all-clause-takes
@@ -48,11 +51,13 @@ returns-then-not-knows_all-clause-takes c =
     let unmarked : is_marked site.integrated n ≡ false =
     ap (λ (m : List Bool). is_marked m n) (sym c.as_slice.ensures) ∙ sym c.is_marked.ensures ∙ c.if-is_marked.false in
     let unheld : is_marked site.held n ≡ false =
-    ap (λ (m : List Bool). is_marked m n) (sym c.as_slice-2.ensures) ∙ sym c.is_marked-2.ensures ∙ c.if-is_marked-2.false in
+    ap (λ (m : List Bool). is_marked m n) (sym c.as_slice-2.ensures) ∙ sym c.is_marked-2.ensures
+    ∙ c.if-is_marked-2.false in
     record {
       unknown = unknown-unmarked past site sorted n unmarked unheld;
       missing = λ all. false≢true (sym c.if-not-knows_all.true ∙ c.knows_all.ensures.1 (record {
-        at = λ x before. ap (λ (m : List Bool). is_marked m x) c.as_slice-3.ensures ∙ marks past site sorted x ∙ all.at x before;
+        at = λ x before. ap (λ (m : List Bool). is_marked m x) c.as_slice-3.ensures
+            ∙ marks past site sorted x ∙ all.at x before;
       }));
       is = ap (λ (m : List Bool). record {
         site = record { document = site.doc; seen = reverse site.seen.items; held = m };
@@ -66,7 +71,13 @@ returns-then-not-knows_all-clause-sorted c =
     let n : ℕ = c.args.number in
     let unmarked : is_marked site.integrated n ≡ false =
     ap (λ (m : List Bool). is_marked m n) (sym c.as_slice.ensures) ∙ sym c.is_marked.ensures ∙ c.if-is_marked.false in
-    let new : Site = record { doc = site.doc; seen = site.seen; integrated = site.integrated; held = c.set.new.self; table = site.table } in
+    let new : Site = record {
+      doc = site.doc;
+      seen = site.seen;
+      integrated = site.integrated;
+      held = c.set.new.self;
+      table = site.table;
+    } in
     let holds : Holds n site new = record { seen = refl; integrated = refl; held = c.set.ensures } in
     ∥∥₁_map c.requires.can (λ k. IsSorted-held (length c.args.made.now) n site new holds c.requires.made
     (omega (arith, k.sorted.marked.held, c.requires.made, c.requires.few)) unmarked k.sorted)
@@ -78,7 +89,13 @@ returns-then-not-knows_all-clause-can c =
     let n : ℕ = c.args.number in
     let unmarked : is_marked site.integrated n ≡ false =
     ap (λ (m : List Bool). is_marked m n) (sym c.as_slice.ensures) ∙ sym c.is_marked.ensures ∙ c.if-is_marked.false in
-    let new : Site = record { doc = site.doc; seen = site.seen; integrated = site.integrated; held = c.set.new.self; table = site.table } in
+    let new : Site = record {
+      doc = site.doc;
+      seen = site.seen;
+      integrated = site.integrated;
+      held = c.set.new.self;
+      table = site.table;
+    } in
     let holds : Holds n site new = record { seen = refl; integrated = refl; held = c.set.ensures } in
     ∥∥₁_map c.requires.can (λ k. record {
       orderly = k.orderly;
@@ -96,7 +113,8 @@ integrate_all-requires-clause-unknown c =
     let n : ℕ = c.args.number in
     unknown-unmarked past site (∥∥₁_map c.requires.can (λ k. k.sorted)) n
     (ap (λ (m : List Bool). is_marked m n) (sym c.as_slice.ensures) ∙ sym c.is_marked.ensures ∙ c.if-is_marked.false)
-    (ap (λ (m : List Bool). is_marked m n) (sym c.as_slice-2.ensures) ∙ sym c.is_marked-2.ensures ∙ c.if-is_marked-2.false)
+    (ap (λ (m : List Bool). is_marked m n) (sym c.as_slice-2.ensures) ∙ sym c.is_marked-2.ensures
+    ∙ c.if-is_marked-2.false)
 
 pub integrate_all-requires-clause-ready : goal.integrate_all-requires-clause-ready
 integrate_all-requires-clause-ready c =

@@ -11,9 +11,9 @@ use Rattle.ot_terms.specs.declared.goal.Goal.{Goal}
 use Rattle.ot_terms.specs.Goals.{GoalTree, goal_tree, laid_form, Choose, Deliver, If, Same}
 use Rattle.ot_terms.specs.Placing.{guard_form}
 use Rattle.ot_terms.specs.Weights.{goal_weight}
-use Rattle.goal_rules.specs.Steps.{front_tree, trial_tree}
-use Rattle.laid_goals.proofs.LaidForms.{low_offsets_of, part_of_yes, part_of_no}
-use Rattle.marked_goals.specs.Settled.{is_settled, StandsMarked}
+use Rattle.ot_rewrite.specs.Steps.{front_tree, trial_tree}
+use Rattle.ot_paths.proofs.LaidForms.{low_offsets_of, part_of_yes, part_of_no}
+use Rattle.start_laws.specs.Settled.{is_settled, StandsMarked}
 use Rattle.ot_starts.specs.declared.kept.Kept.{Kept}
 use Rattle.ot_starts.specs.Kept.{IsKeptEnd}
 use Rattle.ot_starts.proofs.LaidMarks.{yes_falls, no_falls, if_laid}
@@ -21,8 +21,10 @@ use Rattle.ot_starts.proofs.SettledGoals.{settled_on}
 use Rattle.ot_starts.proofs.Trials.{not_begun_there, open_there}
 use Rattle.ot_starts.proofs.laying.+laid.Goals as goal
 
--- the measures: of a call that stands deeper, at the same goal or what stands at its front, and of a goal that weighs less
-deeper : (f : Function) (level above : ℕ) (old front : GoalTree) → old ≡ front → level < above → level + 4 * goal_weight f front < above + 4 * goal_weight f old
+-- the measures: of a call that stands deeper, at the same goal or what stands at
+-- its front, and of a goal that weighs less
+deeper : (f : Function) (level above : ℕ) (old front : GoalTree) → old ≡ front → level < above
+    → level + 4 * goal_weight f front < above + 4 * goal_weight f old
 deeper f level above old front same is =
     let weighs : goal_weight f old ≡ goal_weight f front = ap (goal_weight f) same in omega arith
 
@@ -35,8 +37,10 @@ laid-form_laid-requires t c =
     let f = function_of c.args.rules.now in
     let same = sym c.of.ensures ∙ ap front_tree c.in-If.is in
     let front = If (form_tree c.in-If.form) (goal_tree c.in-If.yes.now) (goal_tree c.in-If.no.now) in
-    let falls = deeper f 3 4 (goal_tree c.args.goal.now) front same (omega arith) in
-    (search (rules, falls), ((c.requires.goal.0, subst (IsGoalOf f c.requires.goal.0) same c.requires.goal.1), c.requires.kept))
+    let falls = deeper f 3 4 (goal_tree c.args.goal.now) front same (omega arith) in (
+      search (rules, falls),
+      ((c.requires.goal.0, subst (IsGoalOf f c.requires.goal.0) same c.requires.goal.1), c.requires.kept),
+    )
 
 pub laid-cases_laid-requires : goal.laid-cases_laid-requires
 laid-cases_laid-requires t c =
@@ -48,8 +52,8 @@ laid-cases_laid-requires t c =
       (
         (c.requires.goal.0, subst (IsGoalOf f c.requires.goal.0) same c.requires.goal.1),
         (
-          not_begun_there c.is_begun.result (goal_tree c.args.goal.now) front same c.is_begun.ensures c.if-is_begun.false
-              c.rules_keep_starts.ensures.begun,
+          not_begun_there c.is_begun.result (goal_tree c.args.goal.now) front same c.is_begun.ensures
+              c.if-is_begun.false c.rules_keep_starts.ensures.begun,
           c.requires.kept,
         ),
       ),
@@ -99,9 +103,11 @@ laid-returns-in-Choose-clause-stands t c =
 pub behind_laid-laid-requires : goal.behind_laid-laid-requires
 behind_laid-laid-requires t c =
     let f = function_of c.args.rules.now in
-    let falls = lighter 4 1 (goal_weight f (goal_tree c.in_ok-next.next.now)) (goal_weight f (goal_tree c.args.goal.now)) (omega arith)
-    c.in_ok-next.ensures.lighter in
-    (search (rules, falls), ((c.requires.goal.0, c.in_ok-next.ensures.alike.belongs c.requires.goal.0 c.requires.goal.1), c.requires.kept))
+    let falls = lighter 4 1 (goal_weight f (goal_tree c.in_ok-next.next.now))
+    (goal_weight f (goal_tree c.args.goal.now)) (omega arith) c.in_ok-next.ensures.lighter in (
+      search (rules, falls),
+      ((c.requires.goal.0, c.in_ok-next.ensures.alike.belongs c.requires.goal.0 c.requires.goal.1), c.requires.kept),
+    )
 
 pub behind_laid-returns-clause-stands : goal.behind_laid-returns-clause-stands
 behind_laid-returns-clause-stands t c =
@@ -144,8 +150,8 @@ end_built-returns-clause-stands t c =
     let Stands = λ (g : Goal). StandsMarked (function_of c.args.rules.now) (goal_tree c.args.goal.now) (goal_tree g) in
     IfOk-weaker c.learnt.result (λ r. r.now ≡ c.in_ok-built.built.now) (λ r. Stands r.now)
     (λ r same. subst Stands (sym same)
-    (subst (λ (g : Goal). StandsMarked (function_of c.args.rules.now) (goal_tree g) (goal_tree c.in_ok-built.built.now)) c.in_ok-at.ensures
-    c.in_ok-built.ensures.stands)) c.learnt.ensures.same
+    (subst (λ (g : Goal). StandsMarked (function_of c.args.rules.now) (goal_tree g) (goal_tree c.in_ok-built.built.now))
+    c.in_ok-at.ensures c.in_ok-built.ensures.stands)) c.learnt.ensures.same
 
 pub end_built-returns-clause-kept : goal.end_built-returns-clause-kept
 end_built-returns-clause-kept t c =
@@ -163,8 +169,10 @@ form_laid-laid-requires t c =
     let g = form_tree c.args.form.now in
     let yes = goal_tree c.args.yes.now in
     let no = goal_tree c.args.no.now in
-    let falls = lighter 4 3 (goal_weight f no) (goal_weight f (If g yes no)) (omega arith) (no_falls f g yes no) in
-    (search (rules, falls), ((c.requires.goal.0, part_of_no f c.requires.goal.0 g yes no c.requires.goal.1), c.requires.kept))
+    let falls = lighter 4 3 (goal_weight f no) (goal_weight f (If g yes no)) (omega arith) (no_falls f g yes no) in (
+      search (rules, falls),
+      ((c.requires.goal.0, part_of_no f c.requires.goal.0 g yes no c.requires.goal.1), c.requires.kept),
+    )
 
 pub form_laid-laid-requires-2 : goal.form_laid-laid-requires-2
 form_laid-laid-requires-2 t c =
@@ -172,13 +180,15 @@ form_laid-laid-requires-2 t c =
     let g = form_tree c.args.form.now in
     let yes = goal_tree c.args.yes.now in
     let no = goal_tree c.args.no.now in
-    let falls = lighter 4 3 (goal_weight f yes) (goal_weight f (If g yes no)) (omega arith) (yes_falls f g yes no) in
-    (search (rules, falls), ((c.requires.goal.0, part_of_yes f c.requires.goal.0 g yes no c.requires.goal.1), c.laid.ensures.kept))
+    let falls = lighter 4 3 (goal_weight f yes) (goal_weight f (If g yes no)) (omega arith) (yes_falls f g yes no) in (
+      search (rules, falls),
+      ((c.requires.goal.0, part_of_yes f c.requires.goal.0 g yes no c.requires.goal.1), c.laid.ensures.kept),
+    )
 
 pub form_laid-by_form-requires : goal.form_laid-by_form-requires
 form_laid-by_form-requires t c =
-    low_offsets_of (function_of c.args.rules.now) c.requires.goal.0 (form_tree c.args.form.now) (goal_tree c.args.yes.now)
-    (goal_tree c.args.no.now) c.requires.goal.1
+    low_offsets_of (function_of c.args.rules.now) c.requires.goal.0 (form_tree c.args.form.now)
+    (goal_tree c.args.yes.now) (goal_tree c.args.no.now) c.requires.goal.1
 
 pub form_laid-returns-clause-stands : goal.form_laid-returns-clause-stands
 form_laid-returns-clause-stands t c =
@@ -188,7 +198,8 @@ form_laid-returns-clause-stands t c =
     let no = goal_tree c.args.no.now in
     let on_yes = goal_tree c.in_ok-on_yes.on_yes.now in
     let on_no = goal_tree c.in_ok-on_no.on_no.now in
-    IfOk-weaker c.by_form.result (λ r. goal_tree r.now ≡ laid_form g on_yes on_no) (λ r. StandsMarked f (If g yes no) (goal_tree r.now))
+    IfOk-weaker c.by_form.result (λ r. goal_tree r.now ≡ laid_form g on_yes on_no)
+    (λ r. StandsMarked f (If g yes no) (goal_tree r.now))
     (λ r. if_laid f g yes no on_yes on_no (goal_tree r.now) c.in_ok-on_yes.ensures.stands c.in_ok-on_no.ensures.stands)
     c.by_form.ensures
 
@@ -198,8 +209,10 @@ tried_laid-laid-requires t c =
     let g = guard_form (formula_of c.args.tried.now.guard.now) c.args.ops.now.a c.args.ops.now.b in
     let yes = goal_tree c.args.tried.now.yes in
     let no = goal_tree c.args.tried.now.no in
-    let falls = lighter 4 3 (goal_weight f no) (goal_weight f (If g yes no)) (omega arith) (no_falls f g yes no) in
-    (search (rules, falls), ((c.requires.goal.0, part_of_no f c.requires.goal.0 g yes no c.requires.goal.1), c.requires.kept))
+    let falls = lighter 4 3 (goal_weight f no) (goal_weight f (If g yes no)) (omega arith) (no_falls f g yes no) in (
+      search (rules, falls),
+      ((c.requires.goal.0, part_of_no f c.requires.goal.0 g yes no c.requires.goal.1), c.requires.kept),
+    )
 
 pub tried_laid-laid-requires-2 : goal.tried_laid-laid-requires-2
 tried_laid-laid-requires-2 t c =
@@ -207,8 +220,10 @@ tried_laid-laid-requires-2 t c =
     let g = guard_form (formula_of c.args.tried.now.guard.now) c.args.ops.now.a c.args.ops.now.b in
     let yes = goal_tree c.args.tried.now.yes in
     let no = goal_tree c.args.tried.now.no in
-    let falls = lighter 4 3 (goal_weight f yes) (goal_weight f (If g yes no)) (omega arith) (yes_falls f g yes no) in
-    (search (rules, falls), ((c.requires.goal.0, part_of_yes f c.requires.goal.0 g yes no c.requires.goal.1), c.laid.ensures.kept))
+    let falls = lighter 4 3 (goal_weight f yes) (goal_weight f (If g yes no)) (omega arith) (yes_falls f g yes no) in (
+      search (rules, falls),
+      ((c.requires.goal.0, part_of_yes f c.requires.goal.0 g yes no c.requires.goal.1), c.laid.ensures.kept),
+    )
 
 pub tried_laid-returns-clause-stands : goal.tried_laid-returns-clause-stands
 tried_laid-returns-clause-stands t c =
@@ -218,7 +233,8 @@ tried_laid-returns-clause-stands t c =
     let no = goal_tree c.args.tried.now.no in
     let on_yes = goal_tree c.in_ok-on_yes.on_yes.now in
     let on_no = goal_tree c.in_ok-on_no.on_no.now in
-    IfOk-weaker c.by_guard.result (λ r. goal_tree r.now ≡ laid_form g on_yes on_no) (λ r. StandsMarked f (If g yes no) (goal_tree r.now))
+    IfOk-weaker c.by_guard.result (λ r. goal_tree r.now ≡ laid_form g on_yes on_no)
+    (λ r. StandsMarked f (If g yes no) (goal_tree r.now))
     (λ r. if_laid f g yes no on_yes on_no (goal_tree r.now) c.in_ok-on_yes.ensures.stands c.in_ok-on_no.ensures.stands)
     c.by_guard.ensures
 
@@ -229,7 +245,8 @@ cases_laid-tried_laid-requires t c =
     let a = c.args.ops.now.a in
     let b = c.args.ops.now.b in
     let tried = c.in-Some.ensures in
-    let falls = lighter 3 3 (goal_weight f (trial_tree a b (Some c.in-Some.tried))) (goal_weight f (Choose c.args.case a b c.args.plan.now))
+    let falls = lighter 3 3 (goal_weight f (trial_tree a b (Some c.in-Some.tried)))
+    (goal_weight f (Choose c.args.case a b c.args.plan.now))
     (omega arith) tried.lighter in (
       search (rules, falls),
       (
@@ -243,11 +260,14 @@ cases_laid-returns-in-Some-clause-stands t c =
     let f = function_of c.args.rules.now in
     let old = Choose c.args.case c.args.ops.now.a c.args.ops.now.b c.args.plan.now in
     let next = trial_tree c.args.ops.now.a c.args.ops.now.b (Some c.in-Some.tried) in
-    IfOk-weaker c.tried_laid.result (λ r. StandsMarked f next (goal_tree r.now)) (λ r. StandsMarked f old (goal_tree r.now))
+    IfOk-weaker c.tried_laid.result (λ r. StandsMarked f next (goal_tree r.now))
+    (λ r. StandsMarked f old (goal_tree r.now))
     (λ r. settled_on f old next (goal_tree r.now) c.in-Some.ensures.stands) c.tried_laid.ensures.stands
 
 pub cases_laid-next_laid-requires : goal.cases_laid-next_laid-requires
 cases_laid-next_laid-requires t c =
     let f = function_of c.args.rules.now in
-    let old = Choose c.args.case c.args.ops.now.a c.args.ops.now.b c.args.plan.now in
-    (search (rules, deeper f 2 3 old old refl (omega arith)), (c.requires.goal, (ap (λ begun. begun || false) c.requires.later, c.requires.kept)))
+    let old = Choose c.args.case c.args.ops.now.a c.args.ops.now.b c.args.plan.now in (
+      search (rules, deeper f 2 3 old old refl (omega arith)),
+      (c.requires.goal, (ap (λ begun. begun || false) c.requires.later, c.requires.kept)),
+    )

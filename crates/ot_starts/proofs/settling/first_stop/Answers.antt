@@ -5,8 +5,8 @@ use Rattle.ot_terms.specs.Belonging.{IsGoalOf}
 use Rattle.ot_terms.specs.Goals.{goal_tree}
 use Rattle.ot_terms.specs.Standing.{ask_goal}
 use Rattle.ot_questions.specs.Obligation.{plan_of}
-use Rattle.marked_goals.specs.Marking.{marked_goal, marked_plan}
-use Rattle.marked_goals.specs.Settled.{is_settled, StandsMarked}
+use Rattle.start_laws.specs.Marking.{marked_goal, marked_plan}
+use Rattle.start_laws.specs.Settled.{is_settled, StandsMarked}
 use Rattle.ot_starts.specs.Nodes.{IsStop}
 use Rattle.ot_starts.proofs.SettledGoals.{of_both}
 use Rattle.ot_starts.proofs.Turns.{first_is_stop, alike_asks}
@@ -23,7 +23,8 @@ pub returns-clause-plan : goal.returns-clause-plan
 returns-clause-plan c =
     let f = function_of c.args.rules.now in
     let start = goal_tree c.in_ok-start.start.now in
-    IfOk-weaker c.settled.result (λ r. StandsMarked f start (goal_tree r.now)) (λ r. ask_goal f (goal_tree r.now) ≡ plan_of f c.args.ob)
+    IfOk-weaker c.settled.result (λ r. StandsMarked f start (goal_tree r.now))
+    (λ r. ask_goal f (goal_tree r.now) ≡ plan_of f c.args.ob)
     (λ r alike. alike_asks f start (goal_tree r.now) alike ∙ ap (ask_goal f) c.in_ok-start.ensures
     ∙ c.first_goals_stand_for_obligations.ensures.plan f c.args.ob) c.settled.ensures.alike
 

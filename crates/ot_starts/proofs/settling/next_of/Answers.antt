@@ -8,5 +8,5 @@ returns-in-Some-clause-alike c =
     let f = function_of c.args.rules.now in
     next_alike f (goal_tree c.args.goal.now) (λ g. goal_tree g.now) c.in_ok-next.field-0 c.in-Some.next c.in-Some.is
     c.in_ok-next.ensures.rule c.in_ok-next.ensures.kept
-    (λ h given. c.rules_keep_starts.ensures.kept f c.requires.goal.0 (goal_tree c.args.goal.now) h c.rules_are_valid.ensures
-    c.requires.goal.1 given (not_begun (goal_tree c.args.goal.now) c.requires.open))
+    (λ h given. c.rules_keep_starts.ensures.kept f c.requires.goal.0 (goal_tree c.args.goal.now) h
+    c.rules_are_valid.ensures c.requires.goal.1 given (not_begun (goal_tree c.args.goal.now) c.requires.open))

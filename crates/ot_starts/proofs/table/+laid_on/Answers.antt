@@ -2,7 +2,7 @@ use Rattle.std.proofs.Common.{arith}
 use Rattle.std.proofs.lemmas.Result.{IfOk-weaker}
 use Rattle.fn_rules.specs.Rules.{function_of}
 use Rattle.ot_terms.specs.Goals.{goal_tree}
-use Rattle.marked_goals.specs.Settled.{OpensStart}
+use Rattle.start_laws.specs.Settled.{OpensStart}
 use Rattle.ot_starts.proofs.SettledGoals.{opens_on}
 use Rattle.ot_starts.proofs.table.+laid_on.Goals as goal
 

@@ -4,7 +4,7 @@ use Rattle.std.proofs.lemmas.Result.{IfOk-weaker}
 use Rattle.fn_rules.specs.Rules.{function_of}
 use Rattle.ot_terms.specs.declared.goal.Goal.{Goal}
 use Rattle.ot_terms.specs.Goals.{goal_tree}
-use Rattle.marked_goals.specs.Settled.{OpensStart}
+use Rattle.start_laws.specs.Settled.{OpensStart}
 use Rattle.ot_starts.specs.declared.kept.Kept.{Kept}
 use Rattle.ot_starts.specs.Kept.{IsKeptStart}
 use Rattle.ot_starts.proofs.table.laid_at.Goals as goal

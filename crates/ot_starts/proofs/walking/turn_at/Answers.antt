@@ -1,7 +1,7 @@
 use Rattle.std.proofs.Common.{ap, ◌∙◌, None}
 use Rattle.fn_rules.specs.Rules.{function_of}
-use Rattle.goal_rules.specs.Steps.{front_tree}
-use Rattle.marked_goals.specs.Marking.{marked_goal, with_start}
+use Rattle.ot_rewrite.specs.Steps.{front_tree}
+use Rattle.start_laws.specs.Marking.{marked_goal, with_start}
 use Rattle.ot_starts.proofs.Turns.{holds_begin, fails_begin}
 use Rattle.ot_starts.proofs.walking.turn_at.Goals as goal
 

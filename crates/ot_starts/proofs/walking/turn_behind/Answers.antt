@@ -1,8 +1,8 @@
 use Rattle.std.proofs.lemmas.Result.{IfOk-weaker}
 use Rattle.fn_rules.specs.Rules.{function_of}
 use Rattle.ot_terms.specs.Goals.{goal_tree}
-use Rattle.goal_rules.specs.Steps.{front_tree}
-use Rattle.marked_goals.specs.Settled.{OpensStart}
+use Rattle.ot_rewrite.specs.Steps.{front_tree}
+use Rattle.start_laws.specs.Settled.{OpensStart}
 use Rattle.ot_starts.specs.Turns.{TurnsAs}
 use Rattle.ot_starts.proofs.SettledGoals.{reached_opens}
 use Rattle.ot_starts.proofs.Turns.{turns_behind}

@@ -13,8 +13,8 @@ returns-clause-turns c =
     let f = function_of c.args.rules.now in
     let old = goal_tree c.args.goal.now in
     let near = goal_tree c.in_ok-near.near.now in
-    IfOk-weaker c.turn_behind.result (TurnsAs f near) (TurnsAs f old) (turns_behind f old near c.in_ok-near.ensures.opens)
-    c.turn_behind.ensures
+    IfOk-weaker c.turn_behind.result (TurnsAs f near) (TurnsAs f old)
+    (turns_behind f old near c.in_ok-near.ensures.opens) c.turn_behind.ensures
 
 pub returns-clause-starts : goal.returns-clause-starts
 returns-clause-starts c = c.laid_on.ensures.starts

@@ -1,4 +1,5 @@
-use Rattle.ot_steps.proofs.FirstCases.{taken_is, is_taken, none_taken, all_false_untaken, undefined_all_false, all_false_undefined}
+use Rattle.ot_steps.proofs.FirstCases.{taken_is, is_taken, none_taken, all_false_untaken, undefined_all_false}
+use Rattle.ot_steps.proofs.FirstCases.{all_false_undefined}
 use Rattle.ot_steps.proofs.laws.cases_are_taken.Goals as goal
 
 pub returns-clause-some : goal.returns-clause-some

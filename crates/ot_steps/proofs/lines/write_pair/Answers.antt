@@ -13,7 +13,7 @@ returns c =
     on_ok_weaker c.write_documents.result
     (λ last. appended5 c.args.out.now.items c.append_bytes.new.out.items c.write_document_way.new.out.items
     c.append_bytes-2.new.out.items c.write_document_way-2.new.out.items c.write_documents.new.out.items
-    (side_line (codes "left")) (document_way_text f 1 2 left) (side_line (codes "right")) (document_way_text f 2 1 right)
-    (documents_line left.end right.end) c.in_ok-append_bytes.ensures c.in_ok-write_document_way.ensures
+    (side_line (codes "left")) (document_way_text f 1 2 left) (side_line (codes "right")) (document_way_text f 2 1
+    right) (documents_line left.end right.end) c.in_ok-append_bytes.ensures c.in_ok-write_document_way.ensures
     c.in_ok-append_bytes-2.ensures c.in_ok-write_document_way-2.ensures last)
     c.write_documents.ensures

@@ -9,5 +9,5 @@ holds-requires-clause-chars c =
     let below : c.loop-number.number < length c.args.cases.now = omega arith in
     IsReadyFor-valid (case_of c.index-cases-number.result) c.args.a.now c.args.b.now
     (rw c.index-cases-number.is
-    (is_valid_case-at (both_have_chars c.args.a.now c.args.b.now) c.args.cases.now c.loop-number.number c.index-cases-number.result
-    c.requires.valid below))
+    (is_valid_case-at (both_have_chars c.args.a.now c.args.b.now) c.args.cases.now c.loop-number.number
+    c.index-cases-number.result c.requires.valid below))

@@ -18,6 +18,7 @@ returns c =
     let same : at ≡ c.args.at = search (rules, to_z-of_z) in
     IfOk-equal c.char_write.result _ _ _ c.char_write.ensures.ok
     (ap (λ (l : List ℕ). l ++ ch)
-    (c.in_ok-write_position.ensures ∙ ap (λ (l : List ℕ). l ++ (32 ∷ [] ++ signed_decimal at ++ 32 ∷ [])) c.in_ok-write_word.ensures)
+    (c.in_ok-write_position.ensures
+    ∙ ap (λ (l : List ℕ). l ++ (32 ∷ [] ++ signed_decimal at ++ 32 ∷ [])) c.in_ok-write_word.ensures)
     ∙ (parts_joined c.args.out.now.items word (signed_decimal at) ch
     ∙ ap (λ (a : ℤ). c.args.out.now.items ++ (word ++ 32 ∷ [] ++ signed_decimal a ++ 32 ∷ [] ++ ch)) same))

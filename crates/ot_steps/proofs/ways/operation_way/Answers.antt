@@ -24,13 +24,13 @@ step-third-requires-clause-b_in_range c =
 pub third_step-requires-clause-second : goal.third_step-requires-clause-second
 third_step-requires-clause-second c =
     let f = function_of c.args.rules.now in
-    result_is_usable c.enabled_operations_are_near.ensures.wider c.transform_stays_near.ensures f (c.functions_keep_forms.ensures f)
-    c.rules_are_valid.ensures c.args.b.now c.args.a.now c.step-second.result.result c.requires.b_declared c.requires.b_near
-    c.requires.a_near (ap (λ (s : Step). s.result) c.step-second.ensures)
+    result_is_usable c.enabled_operations_are_near.ensures.wider c.transform_stays_near.ensures f
+    (c.functions_keep_forms.ensures f) c.rules_are_valid.ensures c.args.b.now c.args.a.now c.step-second.result.result
+    c.requires.b_declared c.requires.b_near c.requires.a_near (ap (λ (s : Step). s.result) c.step-second.ensures)
 
 pub third_step-requires-clause-third : goal.third_step-requires-clause-third
 third_step-requires-clause-third c =
     let f = function_of c.args.rules.now in
-    result_is_usable c.enabled_operations_are_near.ensures.wider c.transform_stays_near.ensures f (c.functions_keep_forms.ensures f)
-    c.rules_are_valid.ensures c.args.c.now c.args.a.now c.step-third.result.result c.requires.c_declared c.requires.c_near
-    c.requires.a_near (ap (λ (s : Step). s.result) c.step-third.ensures)
+    result_is_usable c.enabled_operations_are_near.ensures.wider c.transform_stays_near.ensures
+    f (c.functions_keep_forms.ensures f) c.rules_are_valid.ensures c.args.c.now c.args.a.now c.step-third.result.result
+    c.requires.c_declared c.requires.c_near c.requires.a_near (ap (λ (s : Step). s.result) c.step-third.ensures)

@@ -11,7 +11,8 @@ no_op = Ins (pos 0) 0 0
 
 pub operation_way-left-requires : goal.operation_way-left-requires
 operation_way-left-requires c =
-    let at = λ (i : ℕ). usable_at c.enabled_operations_are_near.ensures.wider c.enabled_operations_are_near.ensures.enabled
+    let at = λ (i : ℕ). usable_at c.enabled_operations_are_near.ensures.wider
+    c.enabled_operations_are_near.ensures.enabled
     (function_of c.args.rules.now) (length c.args.doc.now) c.args.ops.now i no_op c.requires.integrable in
     let a = at 0 (omega arith) c.requires.few in
     let b = at 1 (omega arith) c.requires.few in
@@ -20,7 +21,8 @@ operation_way-left-requires c =
 
 pub operation_way-right-requires : goal.operation_way-right-requires
 operation_way-right-requires c =
-    let at = λ (i : ℕ). usable_at c.enabled_operations_are_near.ensures.wider c.enabled_operations_are_near.ensures.enabled
+    let at = λ (i : ℕ). usable_at c.enabled_operations_are_near.ensures.wider
+    c.enabled_operations_are_near.ensures.enabled
     (function_of c.args.rules.now) (length c.args.doc.now) c.args.ops.now i no_op c.requires.integrable in
     let a = at 0 (omega arith) c.requires.few in
     let b = at 1 (omega arith) c.requires.few in
@@ -29,5 +31,7 @@ operation_way-right-requires c =
 
 pub returns : goal.returns
 returns c =
-    three_told (function_of c.args.rules.now) c.args.doc.now c.args.ops.now no_op c.operation_way-left.result c.operation_way-right.result
-    c.in_ok-one.one c.operation_way-left.ensures c.operation_way-right.ensures c.in_ok-one.ensures c.in-len3.len_at_least c.in-len3.len_below
+    three_told (function_of c.args.rules.now) c.args.doc.now c.args.ops.now no_op c.operation_way-left.result
+    c.operation_way-right.result
+    c.in_ok-one.one c.operation_way-left.ensures c.operation_way-right.ensures c.in_ok-one.ensures
+    c.in-len3.len_at_least c.in-len3.len_below

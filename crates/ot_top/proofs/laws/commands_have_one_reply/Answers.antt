@@ -52,13 +52,14 @@ returns-clause-integrate c =
 pub returns-clause-replay : goal.returns-clause-replay
 returns-clause-replay c =
     λ holds name session_name bytes contents one other told session_told first second.
-    file_replied_once holds name session_name bytes contents one other told session_told IsReplyToSession c.sessions_have_one_reply.ensures first
-    second
+    file_replied_once holds name session_name bytes contents one other told session_told IsReplyToSession
+    c.sessions_have_one_reply.ensures first second
 
 pub returns-clause-hub : goal.returns-clause-hub
 returns-clause-hub c =
     λ holds name hub_name bytes contents one other told hub_told first second.
-    file_replied_once holds name hub_name bytes contents one other told hub_told IsReplyToHub c.hubs_have_one_reply.ensures first second
+    file_replied_once holds name hub_name bytes contents one other told hub_told IsReplyToHub
+    c.hubs_have_one_reply.ensures first second
 
 pub returns-clause-audit : goal.returns-clause-audit
 returns-clause-audit c =
@@ -68,23 +69,29 @@ returns-clause-audit c =
 pub returns-clause-same : goal.returns-clause-same
 returns-clause-same c =
     λ holds name other_name bytes contents one other told other_told first second.
-    same_replied_once c.findings_are_one.ensures.compared holds name other_name bytes contents one other told other_told first second
+    same_replied_once c.findings_are_one.ensures.compared holds name other_name bytes contents one other
+    told other_told first second
 
 pub returns-clause-reverse : goal.returns-clause-reverse
 returns-clause-reverse c =
     λ holds name other_name bytes contents one other told other_told first second.
-    reverse_replied_once c.answers_are_one.ensures holds name other_name bytes contents one other told other_told first second
+    reverse_replied_once c.answers_are_one.ensures holds name other_name bytes contents one other
+    told other_told first second
 
 pub returns-clause-prove : goal.returns-clause-prove
 returns-clause-prove c =
     λ holds level budget name bytes one other told first second.
-    prove_replied_once c.obligations_have_one_question_list.ensures.one holds level budget name bytes one other told first second
+    prove_replied_once c.obligations_have_one_question_list.ensures.one holds level budget name bytes
+    one other told first second
 
 pub returns-clause-template : goal.returns-clause-template
-returns-clause-template c = λ holds level head one other first second. template_replied_once holds level head one other first second
+returns-clause-template c =
+    λ holds level head one other first second. template_replied_once holds level head one other first second
 
 pub returns-clause-drill : goal.returns-clause-drill
 returns-clause-drill c =
     λ holds number one other first second.
-    drill_replied_once c.sessions_begin_as_one.ensures c.makes_have_one_outcome.ensures c.takes_have_one_answer.ensures.answer
-    c.takes_have_one_answer.ensures.session c.obligations_have_one_question_list.ensures.one holds number one other first second
+    drill_replied_once c.sessions_begin_as_one.ensures c.makes_have_one_outcome.ensures
+    c.takes_have_one_answer.ensures.answer
+    c.takes_have_one_answer.ensures.session c.obligations_have_one_question_list.ensures.one holds
+    number one other first second

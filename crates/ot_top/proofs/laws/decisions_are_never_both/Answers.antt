@@ -11,5 +11,6 @@ returns c =
     let grammar = c.what_is_read_is_in_the_grammar.ensures in
     let counters = c.failing_ends_have_counterexamples.ensures in
     never_both (λ bytes f read. grammar.valid bytes f (grammar.text bytes f read))
-    (evidence_level (has_level laws.tp1 laws.tp2 laws.one_outcome) (confirmed_level confirms.tp1 confirms.tp2 confirms.one_outcome))
+    (evidence_level (has_level laws.tp1 laws.tp2 laws.one_outcome)
+    (confirmed_level confirms.tp1 confirms.tp2 confirms.one_outcome))
     (counter_found grammar.text grammar.valid counters.broken counters.by_the_cause c.failing_triples_show_tp1.ensures)

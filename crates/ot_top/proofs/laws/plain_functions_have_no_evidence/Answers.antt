@@ -9,4 +9,5 @@ returns c =
     let laws = c.certificates_show_the_properties.ensures in
     let confirms = c.proofs_show_the_properties.ensures in
     no_evidence c.plain_functions_lack_a_property.ensures
-    (evidence_level (has_level laws.tp1 laws.tp2 laws.one_outcome) (confirmed_level confirms.tp1 confirms.tp2 confirms.one_outcome))
+    (evidence_level (has_level laws.tp1 laws.tp2 laws.one_outcome)
+    (confirmed_level confirms.tp1 confirms.tp2 confirms.one_outcome))

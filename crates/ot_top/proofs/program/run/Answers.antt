@@ -33,25 +33,34 @@ returns-clause-shows g c =
     c.texts_of_functions_are_read.ensures.read c.bytes_have_one_judgement.ensures
     c.plain_functions_lack_a_property.ensures c.plans_have_one_question_list.ensures.one
     (explained
-    (evidence_level (has_level laws.tp1 laws.tp2 laws.one_outcome) (confirmed_level confirms.tp1 confirms.tp2 confirms.one_outcome))
+    (evidence_level (has_level laws.tp1 laws.tp2 laws.one_outcome)
+    (confirmed_level confirms.tp1 confirms.tp2 confirms.one_outcome))
     (counter_found grammar.text grammar.valid counters.broken counters.by_the_cause c.failing_triples_show_tp1.ensures)
     c.texts_of_functions_are_read.ensures.read grammar.valid words holds c.write_answer.result is_written)
-    (templated (λ head. (c.the_test_decides_the_fact.ensures head).0) (λ head. (c.the_test_decides_the_fact.ensures head).1)
-    (λ head is t keeps. c.plain_text_has_no_transformation.ensures head t is keeps) c.templates_have_what_can_be_had.ensures.tp1
-    c.templates_have_what_can_be_had.ensures.tp2 c.both_properties_give_one_outcome.ensures grammar.text words holds c.write_answer.result is_written)
-    (λ e r. broken grammar.text grammar.valid counters.broken counters.by_the_cause c.failing_triples_show_tp1.ensures e words holds r is_written)
-    (λ r. bounded grammar.text grammar.valid c.texts_of_functions_are_read.ensures.read c.low_certificates_show_shorter_documents.ensures
-    c.bytes_have_one_low_judgement.ensures words holds r is_written)
-    (λ r. sought grammar.text grammar.valid c.texts_of_functions_are_read.ensures.read c.low_certificates_show_shorter_documents.ensures
-    c.bytes_have_one_low_judgement.ensures counters.broken counters.by_the_cause c.first_documents_are_never_too_long.ensures words holds r is_written)
-    (λ r. followed grammar.text c.hubs_follow_their_logs.ensures.log c.hubs_follow_their_logs.ensures.clients words holds r is_written)
+    (templated (λ head. (c.the_test_decides_the_fact.ensures head).0)
+    (λ head. (c.the_test_decides_the_fact.ensures head).1)
+    (λ head is t keeps. c.plain_text_has_no_transformation.ensures head t is keeps)
+    c.templates_have_what_can_be_had.ensures.tp1
+    c.templates_have_what_can_be_had.ensures.tp2 c.both_properties_give_one_outcome.ensures grammar.text words holds
+    c.write_answer.result is_written)
+    (λ e r. broken grammar.text grammar.valid counters.broken counters.by_the_cause c.failing_triples_show_tp1.ensures e
+    words holds r is_written)
+    (λ r. bounded grammar.text grammar.valid c.texts_of_functions_are_read.ensures.read
+    c.low_certificates_show_shorter_documents.ensures c.bytes_have_one_low_judgement.ensures words holds r is_written)
+    (λ r. sought grammar.text grammar.valid c.texts_of_functions_are_read.ensures.read
+    c.low_certificates_show_shorter_documents.ensures
+    c.bytes_have_one_low_judgement.ensures counters.broken counters.by_the_cause
+    c.first_documents_are_never_too_long.ensures words holds r is_written)
+    (λ r. followed grammar.text c.hubs_follow_their_logs.ensures.log c.hubs_follow_their_logs.ensures.clients
+    words holds r is_written)
 
 pub returns-clause-answered : goal.returns-clause-answered
 returns-clause-answered g c =
     record {
       replied =
           λ of_a_reply.
-          let told = c.write_answer.ensures.replied of_a_reply.0 of_a_reply.1 of_a_reply.2 in (told.0, told.1, told.3, told.4, told.5);
+          let told = c.write_answer.ensures.replied of_a_reply.0 of_a_reply.1 of_a_reply.2 in
+          (told.0, told.1, told.3, told.4, told.5);
       named =
           named c.write_answer.result
           (λ no_shelf_fault no_sink_fault no_want.
@@ -69,6 +78,7 @@ returns-clause-faults g c =
           whole c.write_answer.result _ _ _ _ (λ six. (c.write_answer.ensures.shelf_fault six).0)
           (λ seven. (c.write_answer.ensures.sink_fault seven).0) c.write_answer.ensures.no_memory
           (λ no_shelf_fault no_sink_fault no_want.
-          let told = c.write_answer.ensures.replied no_shelf_fault no_sink_fault no_want in (told.0, told.1, told.4, told.5));
+          let told = c.write_answer.ensures.replied no_shelf_fault no_sink_fault no_want in
+          (told.0, told.1, told.4, told.5));
       sink_faults = c.write_answer.ensures.sink_faults;
     }

@@ -1,4 +1,5 @@
-use Rattle.std.proofs.Common.{◌≡◌, ◌+◌, ◌*◌, ◌∷◌, ◌++◌, [], ℕ, List, Some, drop, arith, refl, sym, get_or, ◌∙◌, ap, append_assoc}
+use Rattle.std.proofs.Common.{◌≡◌, ◌+◌, ◌*◌, ◌∷◌, ◌++◌, [], ℕ, List, Some, drop, arith, refl, sym, get_or, ◌∙◌, ap}
+use Rattle.std.proofs.Common.{append_assoc}
 use Rattle.std.specs.Prelude.{pos}
 use Rattle.std.proofs.lemmas.List.Elements.{All-get_or}
 use Rattle.ot_model.specs.declared.op.Op.{Op}
@@ -32,11 +33,13 @@ step-one-requires c =
     let i : ℕ = c.loop-other.other-index in
     let e : Op = get_or c.args.executed.now i no_op in
     let other : IsExecuted (function_of c.args.rules.now) e =
-    All-get_or (IsExecuted (function_of c.args.rules.now)) c.args.executed.now i no_op c.loop-other-test.true c.requires.executed in
+    All-get_or (IsExecuted (function_of c.args.rules.now)) c.args.executed.now i no_op
+    c.loop-other-test.true c.requires.executed in
     record {
       a_declared = c.loop-other.invariant.declared;
       b_declared = other.declared;
-      a_in_range = c.enabled_operations_are_near.ensures.wider (most_cells + 99 * i) 1099511627776 c.loop-other.form (omega arith) c.loop-other.invariant.near;
+      a_in_range = c.enabled_operations_are_near.ensures.wider (most_cells + 99 * i) 1099511627776 c.loop-other.form
+          (omega arith) c.loop-other.invariant.near;
       b_in_range = c.enabled_operations_are_near.ensures.wider most_cells 1099511627776 e (omega arith) other.near;
     }
 
@@ -57,7 +60,8 @@ loop-other-preserved c =
     let other : IsExecuted f e = All-get_or (IsExecuted f) executed i no_op inside c.requires.executed in
     let near : IsWithin (most_cells + 99 * i + 99) p =
     c.transform_stays_near.ensures f o e p (most_cells + 99 * i) c.rules_are_valid.ensures
-    c.loop-other.invariant.near (c.enabled_operations_are_near.ensures.wider most_cells (most_cells + 99 * i) e (omega arith) other.near) is in
+    c.loop-other.invariant.near (c.enabled_operations_are_near.ensures.wider most_cells (most_cells + 99 * i) e
+    (omega arith) other.near) is in
     let pushed : c.push.new.self ≡ steps ++ step_of f o e ∷ [] =
     c.in_ok-push.ensures.ok ∙ ap (λ (s : Step). steps ++ s ∷ []) one in
     record {
@@ -66,5 +70,6 @@ loop-other-preserved c =
           ∙ sym (ap (λ (all : List Step). all ++ rest) pushed ∙ append_assoc steps (step_of f o e ∷ []) rest);
       form = c.loop-other.invariant.form ∙ through-next f o executed i no_op inside p is;
       declared = (c.functions_keep_forms.ensures f).declared o e p is c.loop-other.invariant.declared;
-      near = c.enabled_operations_are_near.ensures.wider (most_cells + 99 * i + 99) (most_cells + 99 * (i + 1)) p (omega arith) near;
+      near = c.enabled_operations_are_near.ensures.wider (most_cells + 99 * i + 99)
+          (most_cells + 99 * (i + 1)) p (omega arith) near;
     }

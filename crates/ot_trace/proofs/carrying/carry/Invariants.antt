@@ -13,7 +13,8 @@ abbrev pub invariant-loop-other : goal.invariant-loop-other
 invariant-loop-other l = record {
   told : steps_over (function_of l.rules) l.fn.op l.executed
       ≡ l.steps ++ steps_over (function_of l.rules) l.form (drop l.other-index l.executed);
-  form : through (function_of l.rules) l.fn.op l.executed ≡ through (function_of l.rules) l.form (drop l.other-index l.executed);
+  form : through (function_of l.rules) l.fn.op l.executed
+      ≡ through (function_of l.rules) l.form (drop l.other-index l.executed);
   declared : IsForKind (function_of l.rules).head (kind_of l.form);
   near : IsWithin (most_cells + 99 * l.other-index) l.form;
 }

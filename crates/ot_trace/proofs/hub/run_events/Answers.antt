@@ -16,13 +16,15 @@ loop-number-preserved c =
     let i : ℕ = c.loop-number.number in
     let out : List ℕ = c.loop-number.out.items in
     let mid : List ℕ = c.run_event.new.out.items in
-    let told = told_done TellsHubEvent StopsHubEvent old new i _ c.in_ok-run_event.field-0 out mid c.if-not-branch.false c.in_ok-run_event.ensures in
+    let told = told_done TellsHubEvent StopsHubEvent old new i _ c.in_ok-run_event.field-0 out mid c.if-not-branch.false
+    c.in_ok-run_event.ensures in
     let kept = told_keeps old new i _ told.0 told.1 in
     record {
       is_open = kept.is_open ∙ c.loop-number.invariant.is_open;
       function = kept.function ∙ c.loop-number.invariant.function;
       rest = λ after traces. c.loop-number.invariant.rest after
-          (goes_on TellsHubEvent StopsHubEvent old new i events _ out mid after (drop_more events i _ c.loop-number-test.true) told traces);
+          (goes_on TellsHubEvent StopsHubEvent old new i events _ out mid after
+          (drop_more events i _ c.loop-number-test.true) told traces);
     }
 
 -- no event is left
@@ -32,7 +34,8 @@ returns c =
     let i : ℕ = c.loop-number.number in
     let out : List ℕ = c.loop-number.out.items in
     c.loop-number.invariant.rest out
-    (subst (λ (l : List HubEvent). TracesHub hub i l out out) (sym (drop_all i c.args.events.now c.loop-number-test.false)) refl)
+    (subst (λ (l : List HubEvent). TracesHub hub i l out out)
+    (sym (drop_all i c.args.events.now c.loop-number-test.false)) refl)
 
 -- an event was refused
 pub returns-then-not-branch : goal.returns-then-not-branch
@@ -45,4 +48,5 @@ returns-then-not-branch c =
     let mid : List ℕ = c.run_event.new.out.items in
     c.loop-number.invariant.rest mid
     (stops TellsHubEvent StopsHubEvent old new i events _ out mid (drop_more events i _ c.loop-number-test.true)
-    (told_stopped TellsHubEvent StopsHubEvent old new i _ c.in_ok-run_event.field-0 out mid c.if-not-branch.true c.in_ok-run_event.ensures))
+    (told_stopped TellsHubEvent StopsHubEvent old new i _ c.in_ok-run_event.field-0 out mid c.if-not-branch.true
+    c.in_ok-run_event.ensures))

@@ -11,4 +11,5 @@ returns c =
     let words : List ℕ = codes "    which becomes" in
     IfOk-equal c.write_columns.result _ _ _ c.write_columns.ensures
     (ap (λ (t : List ℕ). out ++ columns words t c.deref-2.result.now) (c.deref.ensures.value ∙ c.in_ok-form.ensures)
-    ∙ ap (λ (t : List ℕ). out ++ columns words (result_text c.args.step.now.result) t) (c.deref-2.ensures.value ∙ c.in_ok-case.ensures))
+    ∙ ap (λ (t : List ℕ). out ++ columns words (result_text c.args.step.now.result) t)
+    (c.deref-2.ensures.value ∙ c.in_ok-case.ensures))

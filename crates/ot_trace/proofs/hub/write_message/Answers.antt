@@ -8,7 +8,8 @@ use Rattle.ot_trace.proofs.hub.write_message.Goals as goal
 pub returns-in-None : goal.returns-in-None
 returns-in-None c =
     IfOk-equal c.write_server_line.result _ _ _ c.write_server_line.ensures
-    (ap (λ (m : Option PlacedOp). c.args.out.now.items ++ message_line c.args.number c.args.client m) (sym c.in-None.is))
+    (ap (λ (m : Option PlacedOp). c.args.out.now.items ++ message_line c.args.number c.args.client m)
+    (sym c.in-None.is))
 
 pub returns-in_ok-text-in-Some : goal.returns-in_ok-text-in-Some
 returns-in_ok-text-in-Some c =

@@ -17,7 +17,8 @@ returns-in_ok-write_done-in-Ok-clause-text c =
     let f : Function = function_of c.args.rules.now in
     let d : List Cell = c.args.doc.now in
     let p : Op = c.in-Some.form in
-    let enabled : is_enabled p (length d) ≡ true = (c.tests_decide_their_facts.ensures.enabled (length d) p).1 c.in-Ok.ensures.was_enabled in
+    let enabled : is_enabled p (length d) ≡ true =
+    (c.tests_decide_their_facts.ensures.enabled (length d) p).1 c.in-Ok.ensures.was_enabled in
     let is : c.apply.new.doc ≡ document_after f.head.mode p d =
     c.in-Ok.ensures.ok ∙ ap (λ (h : Head). document_after h.mode p d) c.head.ensures.head in
     let ended : end_of f d c.args.form ≡ Executed p c.apply.new.doc =
@@ -25,15 +26,19 @@ returns-in_ok-write_done-in-Ok-clause-text c =
     c.in_ok-write_done-in-Ok.ensures ∙ ap (λ (e : OpEnd). c.args.out.now.items ++ end_line e) (sym ended)
 
 -- it was not enabled
-pub returns-in_ok-write_not_enabled-in-Err-NotEnabled-clause-text : goal.returns-in_ok-write_not_enabled-in-Err-NotEnabled-clause-text
+pub returns-in_ok-write_not_enabled-in-Err-NotEnabled-clause-text :
+    goal.returns-in_ok-write_not_enabled-in-Err-NotEnabled-clause-text
 returns-in_ok-write_not_enabled-in-Err-NotEnabled-clause-text c =
     let f : Function = function_of c.args.rules.now in
     let d : List Cell = c.args.doc.now in
     let p : Op = c.in-Some.form in
     let n : ℕ = length d in
     let refused : is_enabled p n ≡ false = false_from_ne_true (is_enabled p n)
-    (λ is. c.in-Err-NotEnabled.ensures.not_enabled.0 (ap Err c.in-Err-NotEnabled.field-0-is) ((c.tests_decide_their_facts.ensures.enabled n p).0 is)) in
+    (λ is. c.in-Err-NotEnabled.ensures.not_enabled.0 (ap Err c.in-Err-NotEnabled.field-0-is)
+    ((c.tests_decide_their_facts.ensures.enabled n p).0 is)) in
     let cells : c.len.result ≡ n = c.len.ensures ∙ ap length c.in-Err-NotEnabled.ensures.err in
     let ended : end_of f d c.args.form ≡ NotEnabled p c.len.result =
-    ap (λ (form : Option Op). end_of f d form) c.in-Some.is ∙ end_of-refused f d p refused ∙ ap (NotEnabled p) (sym cells) in
-    c.in_ok-write_not_enabled-in-Err-NotEnabled.ensures ∙ ap (λ (e : OpEnd). c.args.out.now.items ++ end_line e) (sym ended)
+    ap (λ (form : Option Op). end_of f d form) c.in-Some.is ∙ end_of-refused f d p refused
+    ∙ ap (NotEnabled p) (sym cells) in
+    c.in_ok-write_not_enabled-in-Err-NotEnabled.ensures
+    ∙ ap (λ (e : OpEnd). c.args.out.now.items ++ end_line e) (sym ended)

@@ -12,7 +12,8 @@ abbrev pub invariant-loop-number : goal.invariant-loop-number
 invariant-loop-number l = record {
   text : l.out.items ++ flat_map (op_lines (function_of l.rules))
       (traces_from (function_of l.rules) l.current l.ops l.executed.items (drop l.number-index l.order))
-      ≡ l.initial.out.items ++ flat_map (op_lines (function_of l.rules)) (order_trace (function_of l.rules) l.doc l.ops l.order);
+      ≡ l.initial.out.items ++ flat_map (op_lines (function_of l.rules))
+      (order_trace (function_of l.rules) l.doc l.ops l.order);
   executed : All (IsExecuted (function_of l.rules)) l.executed.items;
   count : length l.executed.items ≤ l.number-index;
   cells : length l.current ≤ MAX_CELLS + l.number-index;

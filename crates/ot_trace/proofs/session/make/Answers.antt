@@ -23,8 +23,8 @@ returns-in_ok-not_made-in-Err c =
       [],
       (
         c.in-Err.why,
-        refused (view_of c.args.session.now) c.args.site c.args.op c.in-Err.why told.no_site told.wrong_site told.wrong_kind
-            told.not_enabled told.full c.in_ok-not_made-in-Err.ensures,
+        refused (view_of c.args.session.now) c.args.site c.args.op c.in-Err.why told.no_site told.wrong_site
+            told.wrong_kind told.not_enabled told.full c.in_ok-not_made-in-Err.ensures,
         refl,
       ),
       sym (append-nil c.args.out.now.items),

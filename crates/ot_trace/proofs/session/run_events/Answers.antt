@@ -16,11 +16,13 @@ loop-number-preserved c =
     let i : ℕ = c.loop-number.number in
     let out : List ℕ = c.loop-number.out.items in
     let mid : List ℕ = c.run_event.new.out.items in
-    let told = told_done TellsEvent StopsEvent old new i _ c.in_ok-run_event.field-0 out mid c.if-not-branch.false c.in_ok-run_event.ensures in
+    let told = told_done TellsEvent StopsEvent old new i _ c.in_ok-run_event.field-0 out mid c.if-not-branch.false
+    c.in_ok-run_event.ensures in
     record {
       is_open = told_is_open old new i _ told.0 told.1 c.loop-number.invariant.is_open;
       rest = λ after traces. c.loop-number.invariant.rest after
-          (goes_on TellsEvent StopsEvent old new i events _ out mid after (drop_more events i _ c.loop-number-test.true) told traces);
+          (goes_on TellsEvent StopsEvent old new i events _ out mid after
+          (drop_more events i _ c.loop-number-test.true) told traces);
     }
 
 -- no event is left
@@ -30,4 +32,5 @@ returns c =
     let i : ℕ = c.loop-number.number in
     let out : List ℕ = c.loop-number.out.items in
     c.loop-number.invariant.rest out
-    (subst (λ (l : List Event). TracesSession v i l out out) (sym (drop_all i c.args.events.now c.loop-number-test.false)) refl)
+    (subst (λ (l : List Event). TracesSession v i l out out)
+    (sym (drop_all i c.args.events.now c.loop-number-test.false)) refl)

@@ -17,5 +17,5 @@ returns c =
     let options =
     with_argument _ _ _ (with_rule bare flag) budget c.in_ok-with_options.ensures c.budget_option.ensures.local level
     c.budget_option.ensures.rule in
-    with_last_argument c.arg-3.result _ _ (with_rule (with_rule bare flag) budget) (required_rule (codes "function")) c.arg-3.ensures
-    c.required_argument.ensures.local options c.required_argument.ensures.rule
+    with_last_argument c.arg-3.result _ _ (with_rule (with_rule bare flag) budget) (required_rule (codes "function"))
+    c.arg-3.ensures c.required_argument.ensures.local options c.required_argument.ensures.rule

@@ -6,5 +6,5 @@ use Rattle.ot_words.proofs.words.drill_app.Goals as goal
 
 pub returns : goal.returns
 returns c =
-    with_last_argument c.arg.result _ _ (bare_app (codes "drill")) number_rule c.arg.ensures c.number_argument.ensures.local
-    c.bare_app.ensures c.number_argument.ensures.rule
+    with_last_argument c.arg.result _ _ (bare_app (codes "drill")) number_rule c.arg.ensures
+    c.number_argument.ensures.local c.bare_app.ensures c.number_argument.ensures.rule

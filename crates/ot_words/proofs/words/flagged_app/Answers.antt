@@ -10,6 +10,7 @@ returns c =
     let bare = bare_app c.args.name.now in
     let flag = flag_rule c.args.flag.now in
     let flagged =
-    with_argument _ _ _ bare flag c.in_ok-with_flag.ensures c.flag_option.ensures.local c.bare_app.ensures c.flag_option.ensures.rule in
+    with_argument _ _ _ bare flag c.in_ok-with_flag.ensures c.flag_option.ensures.local c.bare_app.ensures
+    c.flag_option.ensures.rule in
     with_last_argument c.arg-2.result _ _ (with_rule bare flag) (required_rule (codes "function")) c.arg-2.ensures
     c.required_argument.ensures.local flagged c.required_argument.ensures.rule

@@ -14,10 +14,10 @@ returns c =
     with_argument _ _ _ template_options mode c.in_ok-with_mode.ensures c.required_argument.ensures.local
     c.in_ok-template_options.ensures c.required_argument.ensures.rule in
     let with_first =
-    with_argument _ _ _ (with_rule template_options mode) first c.in_ok-with_kind.ensures c.required_argument-2.ensures.local begun
-    c.required_argument-2.ensures.rule in
+    with_argument _ _ _ (with_rule template_options mode) first c.in_ok-with_kind.ensures
+    c.required_argument-2.ensures.local begun c.required_argument-2.ensures.rule in
     let with_second =
-    with_argument _ _ _ (with_rule (with_rule template_options mode) first) second c.in_ok-with_second.ensures c.new.ensures.optional.1
-    with_first c.new.ensures.rule in
-    with_last_argument c.arg-4.result _ _ (with_rule (with_rule (with_rule template_options mode) first) second) (new_rule (codes "third"))
-    c.arg-4.ensures c.new-2.ensures.optional.1 with_second c.new-2.ensures.rule
+    with_argument _ _ _ (with_rule (with_rule template_options mode) first) second c.in_ok-with_second.ensures
+    c.new.ensures.optional.1 with_first c.new.ensures.rule in
+    with_last_argument c.arg-4.result _ _ (with_rule (with_rule (with_rule template_options mode) first) second)
+    (new_rule (codes "third")) c.arg-4.ensures c.new-2.ensures.optional.1 with_second c.new-2.ensures.rule

@@ -16,5 +16,5 @@ returns c =
     let further =
     with_argument _ _ _ (with_rule bare level) sites c.in_ok-with_sites.ensures c.flag_option-2.ensures.local begun
     c.flag_option-2.ensures.rule in
-    with_last_argument c.arg-3.result _ _ (with_rule (with_rule bare level) sites) (flag_rule (codes "chars-differ")) c.arg-3.ensures
-    c.flag_option-3.ensures.local further c.flag_option-3.ensures.rule
+    with_last_argument c.arg-3.result _ _ (with_rule (with_rule bare level) sites) (flag_rule (codes "chars-differ"))
+    c.arg-3.ensures c.flag_option-3.ensures.local further c.flag_option-3.ensures.rule

@@ -11,5 +11,5 @@ returns c =
     let begun =
     with_argument _ _ _ trace_options first c.in_ok-with_first.ensures c.required_argument.ensures.local
     c.in_ok-trace_options.ensures c.required_argument.ensures.rule in
-    with_last_argument c.arg-2.result _ _ (with_rule trace_options first) (required_rule (codes "second")) c.arg-2.ensures
-    c.required_argument-2.ensures.local begun c.required_argument-2.ensures.rule
+    with_last_argument c.arg-2.result _ _ (with_rule trace_options first) (required_rule (codes "second"))
+    c.arg-2.ensures c.required_argument-2.ensures.local begun c.required_argument-2.ensures.rule

@@ -1,15 +1,16 @@
 use Rattle.std.proofs.Common.{◌++◌, inr, sym, ◌∙◌}
 use Rattle.open_places.specs.Places.{literals_at}
 use Rattle.proof_check.proofs.Keeping.{KeepsStarts-refl, first_is_own, own_kept, own_cited}
-use Rattle.proof_check.proofs.Citing.{none_of, cited_is_own, cited_is_known, refused_at_cycle, refused_without_start, refused_unknown, refused_other_since}
+use Rattle.proof_check.proofs.Citing.{none_of, cited_is_own, cited_is_known, refused_at_cycle, refused_without_start}
+use Rattle.proof_check.proofs.Citing.{refused_unknown, refused_other_since}
 use Rattle.proof_check.proofs.Taking.{citation_taken_over}
 use Rattle.proof_check.proofs.token.take_citation.Goals as goal
 
 pub returns-clause-ok : goal.returns-clause-ok
 returns-clause-ok g c =
     rw c.in_ok-cite.ensures.ok
-    (citation_taken_over c.compare.ensures.same c.args.places.now c.requires.own c.in-Some.here c.in-Some-lemma.lemma c.args.number
-    c.in-Some-2.conditions
+    (citation_taken_over c.compare.ensures.same c.args.places.now c.requires.own c.in-Some.here c.in-Some-lemma.lemma
+    c.args.number c.in-Some-2.conditions
     (sym (rw c.in-Some.is at c.node.ensures.value))
     (sym (rw c.in-Some-lemma.is at c.lemma.ensures))
     (sym (rw c.in-Some-2.is at c.in_ok-conditions.ensures.conditions)))
@@ -23,7 +24,8 @@ returns-clause-own g c =
 pub returns-in_default-clause-why : goal.returns-in_default-clause-why
 returns-in_default-clause-why g c =
     inr
-    (refused_at_cycle (g.A.Starter.starts c.args.asker.now) c.args.places.now c.args.number c.node.ensures.settled c.requires.open
+    (refused_at_cycle (g.A.Starter.starts c.args.asker.now) c.args.places.now c.args.number
+    c.node.ensures.settled c.requires.open
     (λ n first. c.in_default.not-Some n (c.node.ensures.value ∙ first)))
 
 pub returns-then-not-begins-clause-why : goal.returns-then-not-begins-clause-why
@@ -44,16 +46,20 @@ returns-in_default-2-clause-why g c =
     inr
     (refused_other_since c.compare.ensures.same c.args.places.now c.requires.own c.args.number c.in-Some.here
     (sym (rw c.in-Some.is at c.node.ensures.value)) c.in-Some-lemma.lemma (sym c.begins.ensures ∙ c.if-not-begins.false)
-    (sym (rw c.in-Some-lemma.is at c.lemma.ensures)) (sym c.in_ok-conditions.ensures.conditions ∙ none_of c.in_ok-conditions.field-0 c.in_default-2.not-Some))
+    (sym (rw c.in-Some-lemma.is at c.lemma.ensures)) (sym c.in_ok-conditions.ensures.conditions
+    ∙ none_of c.in_ok-conditions.field-0 c.in_default-2.not-Some))
 
 pub returns-in_default-clause-same : goal.returns-in_default-clause-same
-returns-in_default-clause-same g c = KeepsStarts-refl (g.A.Asker.is_own c.args.asker.now) (g.A.Starter.starts c.args.asker.now)
+returns-in_default-clause-same g c =
+    KeepsStarts-refl (g.A.Asker.is_own c.args.asker.now) (g.A.Starter.starts c.args.asker.now)
 
 pub returns-then-not-begins-clause-same : goal.returns-then-not-begins-clause-same
-returns-then-not-begins-clause-same g c = KeepsStarts-refl (g.A.Asker.is_own c.args.asker.now) (g.A.Starter.starts c.args.asker.now)
+returns-then-not-begins-clause-same g c =
+    KeepsStarts-refl (g.A.Asker.is_own c.args.asker.now) (g.A.Starter.starts c.args.asker.now)
 
 pub returns-in_default-lemma-clause-same : goal.returns-in_default-lemma-clause-same
-returns-in_default-lemma-clause-same g c = KeepsStarts-refl (g.A.Asker.is_own c.args.asker.now) (g.A.Starter.starts c.args.asker.now)
+returns-in_default-lemma-clause-same g c =
+    KeepsStarts-refl (g.A.Asker.is_own c.args.asker.now) (g.A.Starter.starts c.args.asker.now)
 
 pub returns-in_err-conditions-clause-same : goal.returns-in_err-conditions-clause-same
 returns-in_err-conditions-clause-same g c = c.compare.ensures.same
@@ -79,8 +85,9 @@ compare-requires-clause-here g c =
 
 pub compare-requires-clause-lemma : goal.compare-requires-clause-lemma
 compare-requires-clause-lemma g c =
-    cited_is_own (g.A.Asker.is_own c.args.asker.now) c.args.places.now c.requires.own c.args.number c.in-Some-lemma.lemma
-    (sym (rw c.in-Some-lemma.is at c.lemma.ensures))
+    cited_is_own (g.A.Asker.is_own c.args.asker.now) c.args.places.now c.requires.own c.args.number
+    c.in-Some-lemma.lemma (sym (rw c.in-Some-lemma.is at c.lemma.ensures))
 
 pub cite-requires-clause-known : goal.cite-requires-clause-known
-cite-requires-clause-known g c = cited_is_known c.args.places.now c.args.number c.in-Some-lemma.lemma (sym (rw c.in-Some-lemma.is at c.lemma.ensures))
+cite-requires-clause-known g c = cited_is_known c.args.places.now c.args.number c.in-Some-lemma.lemma
+    (sym (rw c.in-Some-lemma.is at c.lemma.ensures))

@@ -8,7 +8,15 @@ returns g c = record {
       inr
       (record {
         item =
-            record { node = c.args.node; literals = c.new.result; outer = c.args.search.now.facts; waiting = c.len.result; answers = c.len-2.result; scout = false; sent = c.args.search.now.sent };
+            record {
+              node = c.args.node;
+              literals = c.new.result;
+              outer = c.args.search.now.facts;
+              waiting = c.len.result;
+              answers = c.len-2.result;
+              scout = false;
+              sent = c.args.search.now.sent;
+            };
         at_node = refl;
         items = c.in_ok-push.ensures.items;
       });

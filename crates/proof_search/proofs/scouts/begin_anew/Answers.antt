@@ -1,6 +1,6 @@
 use Rattle.std.proofs.Common.{◌∷◌, ◌++◌, [], true, refl, ap, ◌∙◌}
-use Rattle.lemma_levels.specs.declared.open.LemmaLevel.{LemmaLevel}
-use Rattle.lemma_levels.specs.declared.open.Search.{Search}
+use Rattle.proof_search.specs.declared.under_way.LemmaLevel.{LemmaLevel}
+use Rattle.proof_search.specs.declared.under_way.Search.{Search}
 use Rattle.proof_search.proofs.scouts.begin_anew.Goals as goal
 
 -- one of the node stands at the end

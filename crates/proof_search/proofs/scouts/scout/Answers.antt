@@ -1,5 +1,5 @@
 use Rattle.std.proofs.Common.{Some, inr, ap, ◌∙◌}
-use Rattle.lemma_levels.specs.declared.open.LemmaLevel.{LemmaLevel}
+use Rattle.proof_search.specs.declared.under_way.LemmaLevel.{LemmaLevel}
 use Rattle.proof_search.proofs.scouts.scout.Goals as goal
 
 -- a level of the same node stands in the place of the one that was taken out

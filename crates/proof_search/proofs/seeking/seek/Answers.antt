@@ -12,8 +12,8 @@ take_turns-requires-clause-within g c = rw c.begin-search.ensures.asked (omega a
 pub take_turns-requires-clause-own : goal.take_turns-requires-clause-own
 take_turns-requires-clause-own g c =
     let begun = c.begin-search.ensures in
-    own_begun (g.A.Asker.is_own c.first.new.self) c.begin-search.result c.in_ok-first.first begun.open begun.levels begun.waiting
-    begun.lemmas c.in_ok-first.ensures.begins.0
+    own_begun (g.A.Asker.is_own c.first.new.self) c.begin-search.result c.in_ok-first.first begun.open begun.levels
+    begun.waiting begun.lemmas c.in_ok-first.ensures.begins.0
 
 pub returns-in_err-ending-clause-same : goal.returns-in_err-ending-clause-same
 returns-in_err-ending-clause-same g c = KeepsStarts-trans c.first.ensures.same c.take_turns.ensures.same

@@ -14,13 +14,13 @@ number_alike-requires g c =
 
 pub serving_of-requires-2-clause-lemmas : goal.serving_of-requires-2-clause-lemmas
 serving_of-requires-2-clause-lemmas g c =
-    lemmas_kept (KeepsStarts-trans (KeepsStarts-trans c.number.ensures.same c.serving_of.ensures.same) c.number_alike.ensures.same)
-    c.args.lemmas.now c.requires.lemmas
+    lemmas_kept (KeepsStarts-trans (KeepsStarts-trans c.number.ensures.same c.serving_of.ensures.same)
+    c.number_alike.ensures.same) c.args.lemmas.now c.requires.lemmas
 
 pub serving_of-requires-2-clause-here : goal.serving_of-requires-2-clause-here
 serving_of-requires-2-clause-here g c =
-    ((KeepsStarts-trans (KeepsStarts-trans c.number.ensures.same c.serving_of.ensures.same) c.number_alike.ensures.same).own c.args.here).0
-    c.requires.here
+    ((KeepsStarts-trans (KeepsStarts-trans c.number.ensures.same c.serving_of.ensures.same)
+    c.number_alike.ensures.same).own c.args.here).0 c.requires.here
 
 -- every call keeps what the asker says of its starts
 pub returns-in_err-number-clause-same : goal.returns-in_err-number-clause-same
@@ -45,5 +45,5 @@ returns-clause-serves g c = c.serving_of-2.ensures.serves
 
 pub returns-clause-same : goal.returns-clause-same
 returns-clause-same g c =
-    KeepsStarts-trans (KeepsStarts-trans (KeepsStarts-trans c.number.ensures.same c.serving_of.ensures.same) c.number_alike.ensures.same)
-    c.serving_of-2.ensures.same
+    KeepsStarts-trans (KeepsStarts-trans (KeepsStarts-trans c.number.ensures.same c.serving_of.ensures.same)
+    c.number_alike.ensures.same) c.serving_of-2.ensures.same

@@ -22,7 +22,8 @@ returns-in_err-lit-clause-same g c = KeepsStarts-trans c.is_left.ensures.same c.
 
 -- a question is asked there
 pub returns-then-search-budget-clause-own : goal.returns-then-search-budget-clause-own
-returns-then-search-budget-clause-own g c = search_kept c.follow.ensures.same c.is_left.new.search c.in_ok-is_left.ensures.own
+returns-then-search-budget-clause-own g c =
+    search_kept c.follow.ensures.same c.is_left.new.search c.in_ok-is_left.ensures.own
 
 pub returns-then-search-budget-clause-same : goal.returns-then-search-budget-clause-same
 returns-then-search-budget-clause-same g c = KeepsStarts-trans c.is_left.ensures.same c.follow.ensures.same
@@ -69,7 +70,8 @@ pub returns-in-Fails-clause-within : goal.returns-in-Fails-clause-within
 returns-in-Fails-clause-within g c =
     on_ok_weaker c.fail.result
     (λ (gone : MayGoBack (closed_search c.is_left.new.search) c.fail.new.search).
-    let back : c.fail.new.search.asked ≡ c.is_left.new.search.asked = asked_back c.is_left.new.search c.fail.new.search gone in
+    let back : c.fail.new.search.asked ≡ c.is_left.new.search.asked =
+    asked_back c.is_left.new.search c.fail.new.search gone in
     omega (arith, back, c.in_ok-is_left.ensures.asked, c.requires.within)) c.fail.ensures.gone
 
 pub returns-in-Fails-clause-same : goal.returns-in-Fails-clause-same

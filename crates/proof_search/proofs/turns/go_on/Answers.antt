@@ -1,5 +1,5 @@
 use Rattle.std.proofs.Common.{inl, inr, refl, sym, ap, ◌∙◌, [], ◌∷◌, ◌++◌}
-use Rattle.lemma_levels.specs.declared.open.Search.{Search}
+use Rattle.proof_search.specs.declared.under_way.Search.{Search}
 use Rattle.proof_search.proofs.turns.go_on.Goals as goal
 
 -- the innermost part was taken out, and is open
@@ -11,7 +11,8 @@ returns-then-branch-clause-opens g c =
           inr
           (record {
             part = c.in-Some.part;
-            parts = c.in-Some.ensures.items ∙ ap (λ (s : Search g.row.N.Denot). s.waiting.items ++ c.in-Some.part ∷ []) (sym kept);
+            parts = c.in-Some.ensures.items
+                ∙ ap (λ (s : Search g.row.N.Denot). s.waiting.items ++ c.in-Some.part ∷ []) (sym kept);
             at = inl refl;
           });
       levels = ap (λ (s : Search g.row.N.Denot). s.levels.items) kept;
@@ -28,7 +29,8 @@ returns-clause-opens g c =
           inr
           (record {
             part = c.in-Some.part;
-            parts = c.in-Some.ensures.items ∙ ap (λ (s : Search g.row.N.Denot). s.waiting.items ++ c.in-Some.part ∷ []) (sym kept);
+            parts = c.in-Some.ensures.items
+                ∙ ap (λ (s : Search g.row.N.Denot). s.waiting.items ++ c.in-Some.part ∷ []) (sym kept);
             at = inr (ap (λ (s : Search g.row.N.Denot). s.at) kept);
           });
       levels = ap (λ (s : Search g.row.N.Denot). s.levels.items) kept;

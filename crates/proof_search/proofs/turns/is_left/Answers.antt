@@ -10,7 +10,8 @@ pub returns-then-branch-clause-own : goal.returns-then-branch-clause-own
 returns-then-branch-clause-own g c =
     let is_own = g.A.Asker.is_own c.is_shown.new.asker in
     let own = search_kept c.is_shown.ensures.same c.args.search.now c.requires.own in
-    own_none is_own c.is_shown.new.search (own_places is_own c.args.search.now c.is_shown.new.search own c.in_ok-is_shown.ensures.places)
+    own_none is_own c.is_shown.new.search
+    (own_places is_own c.args.search.now c.is_shown.new.search own c.in_ok-is_shown.ensures.places)
 
 pub returns-then-branch-clause-same : goal.returns-then-branch-clause-same
 returns-then-branch-clause-same g c = c.is_shown.ensures.same

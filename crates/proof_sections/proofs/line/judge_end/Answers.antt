@@ -7,4 +7,5 @@ returns-in-Ok c = line_found end_front c.args.bytes.now c.args.at c.in-Ok.next c
 
 pub returns-in-Err : goal.returns-in-Err
 returns-in-Err c =
-    rw c.unread_part.ensures (line_unread end_front c.args.bytes.now c.args.at c.in-Err.unread c.requires c.in-Err.ensures)
+    rw c.unread_part.ensures
+    (line_unread end_front c.args.bytes.now c.args.at c.in-Err.unread c.requires c.in-Err.ensures)

@@ -7,4 +7,5 @@ returns-in-Ok c = line_found line_end_front c.args.bytes.now c.args.at c.in-Ok.n
 
 pub returns-in-Err : goal.returns-in-Err
 returns-in-Err c =
-    rw c.unread_part.ensures (line_unread line_end_front c.args.bytes.now c.args.at c.in-Err.unread c.requires c.in-Err.ensures)
+    rw c.unread_part.ensures
+    (line_unread line_end_front c.args.bytes.now c.args.at c.in-Err.unread c.requires c.in-Err.ensures)

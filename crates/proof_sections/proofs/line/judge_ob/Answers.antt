@@ -7,4 +7,5 @@ returns-in-Ok c = line_found (ob_front c.args.name) c.args.bytes.now c.args.at c
 
 pub returns-in-Err : goal.returns-in-Err
 returns-in-Err c =
-    rw c.unread_part.ensures (line_unread (ob_front c.args.name) c.args.bytes.now c.args.at c.in-Err.unread c.requires c.in-Err.ensures)
+    rw c.unread_part.ensures
+    (line_unread (ob_front c.args.name) c.args.bytes.now c.args.at c.in-Err.unread c.requires c.in-Err.ensures)

@@ -16,13 +16,13 @@ pub returns-in-Err-judge-clause-refused : goal.returns-in-Err-judge-clause-refus
 returns-in-Err-judge-clause-refused g c =
     let starts = g.A.Starter.starts in
     rw c.refusal_at.ensures
-    (token_refused c.tokens_are_found_exactly.ensures (starts c.args.checker.now.asker).compare c.args.bytes.now c.args.at
-    (standing_at starts c.args.checker.now) c.requires.place c.read_token.new.tok _ c.in-Err-judge.refusal c.in-Ok.ensures.2
-    (c.in-Err-judge.ensures.why c.requires.fresh))
+    (token_refused c.tokens_are_found_exactly.ensures (starts c.args.checker.now.asker).compare c.args.bytes.now
+    c.args.at (standing_at starts c.args.checker.now) c.requires.place c.read_token.new.tok _ c.in-Err-judge.refusal
+    c.in-Ok.ensures.2 (c.in-Err-judge.ensures.why c.requires.fresh))
 
 pub returns-in-Err-clause-refused : goal.returns-in-Err-clause-refused
 returns-in-Err-clause-refused g c =
     let starts = g.A.Starter.starts in
     rw c.unread_part.ensures
-    (token_unread c.tokens_are_found_exactly.ensures (starts c.args.checker.now.asker).compare c.args.bytes.now c.args.at
-    (standing_at starts c.args.checker.now) c.requires.place c.in-Err.unread c.in-Err.ensures)
+    (token_unread c.tokens_are_found_exactly.ensures (starts c.args.checker.now.asker).compare c.args.bytes.now
+    c.args.at (standing_at starts c.args.checker.now) c.requires.place c.in-Err.unread c.in-Err.ensures)

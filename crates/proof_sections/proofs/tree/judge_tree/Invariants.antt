@@ -9,7 +9,8 @@ invariant-loop-len g l =
     let starts = g.A.Starter.starts in
     (l.at ≤ length l.bytes) × (0 < length l.checker.places.wanted) × (l.checker.refusal ≡ None)
     × ((starts l.checker.asker).compare ≡ (starts l.fn.asker).compare)
-    × (tree_judged (starts l.fn.asker).compare (length l.bytes) (opened_tree (starts l.fn.asker).root) (drop l.start l.bytes)
+    × (tree_judged (starts l.fn.asker).compare (length l.bytes)
+    (opened_tree (starts l.fn.asker).root) (drop l.start l.bytes)
     ≡ tree_judged (starts l.fn.asker).compare (length l.bytes) (standing_at starts l.checker) (drop l.at l.bytes))
 
 abbrev pub decreases-loop-len : goal.decreases-loop-len

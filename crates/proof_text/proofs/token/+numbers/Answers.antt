@@ -1,41 +1,45 @@
 use Rattle.std.proofs.Common.{◌≡◌, ℕ, ◌-◌, List, [], ◌∷◌, ◌++◌, length, arith, ap, ◌∙◌, append_assoc}
 use Rattle.ask_core.specs.declared.picks.TheConstants.{MAX_PICKS}
 use Rattle.proof_text.specs.Numbers.{number_front}
-use Rattle.proof_text.proofs.ItemLemmas.{item_alone, item_last, item_missing, item_more_found, item_more_missing, item_over, item_wrong, one_more}
+use Rattle.proof_text.proofs.ItemLemmas.{item_alone, item_last, item_missing, item_more_found, item_more_missing}
+use Rattle.proof_text.proofs.ItemLemmas.{item_over, item_wrong, one_more}
 use Rattle.proof_text.proofs.Places.{map_err, map_ok}
 use Rattle.proof_text.proofs.token.+numbers.Goals as goal
 
 pub returns-in-Err-clause-missing : goal.returns-in-Err-clause-missing
 returns-in-Err-clause-missing t c =
-    item_missing (number_front 10000) 44 59 (MAX_PICKS - length c.args.picks.now) c.args.bytes.now c.in-Err.why (omega arith) c.in-Err.ensures.missing
+    item_missing (number_front 10000) 44 59 (MAX_PICKS - length c.args.picks.now) c.args.bytes.now c.in-Err.why
+    (omega arith) c.in-Err.ensures.missing
 
 pub returns-in_default-clause-missing : goal.returns-in_default-clause-missing
 returns-in_default-clause-missing t c =
     let none : length c.in-Ok.found.1.now ≡ 0 = omega (arith, c.in_default.ensures.cases) in
-    item_alone (number_front 10000) 44 59 (MAX_PICKS - length c.args.picks.now) c.args.bytes.now c.in-Ok.found.1.now c.in-Ok.found.0 (omega arith)
-    c.in-Ok.ensures.found none
+    item_alone (number_front 10000) 44 59 (MAX_PICKS - length c.args.picks.now) c.args.bytes.now c.in-Ok.found.1.now
+    c.in-Ok.found.0 (omega arith) c.in-Ok.ensures.found none
 
 pub returns-then-byte-eq59-clause-found : goal.returns-then-byte-eq59-clause-found
 returns-then-byte-eq59-clause-found t c = (
   c.in-Ok.found.0 ∷ [],
   c.push.ensures,
-  item_last (number_front 10000) 44 59 (MAX_PICKS - length c.args.picks.now) c.in-Some.byte.now c.args.bytes.now c.in-Ok.found.1.now
-      c.in-Some.behind.now c.in-Ok.found.0 (omega arith) c.in-Ok.ensures.found c.in-Some.ensures.cases.0 c.if-byte-eq59.true,
+  item_last (number_front 10000) 44 59 (MAX_PICKS - length c.args.picks.now) c.in-Some.byte.now
+      c.args.bytes.now c.in-Ok.found.1.now
+      c.in-Some.behind.now c.in-Ok.found.0 (omega arith) c.in-Ok.ensures.found
+      c.in-Some.ensures.cases.0 c.if-byte-eq59.true,
 )
 
 pub returns-then-byte-ne44-clause-missing : goal.returns-then-byte-ne44-clause-missing
 returns-then-byte-ne44-clause-missing t c =
-    item_wrong (number_front 10000) 44 59 (MAX_PICKS - length c.args.picks.now) c.in-Some.byte.now c.args.bytes.now c.in-Ok.found.1.now
-    c.in-Some.behind.now c.in-Ok.found.0 (omega arith) c.in-Ok.ensures.found c.in-Some.ensures.cases.0 c.if-byte-eq59.false
-    c.if-byte-ne44.true
+    item_wrong (number_front 10000) 44 59 (MAX_PICKS - length c.args.picks.now) c.in-Some.byte.now
+    c.args.bytes.now c.in-Ok.found.1.now c.in-Some.behind.now c.in-Ok.found.0 (omega arith) c.in-Ok.ensures.found
+    c.in-Some.ensures.cases.0 c.if-byte-eq59.false c.if-byte-ne44.true
 
 pub returns-then-as_slice-eq-MAX_PICKS-clause-missing : goal.returns-then-as_slice-eq-MAX_PICKS-clause-missing
 returns-then-as_slice-eq-MAX_PICKS-clause-missing t c =
     let count = one_more c.args.picks.now c.push.new.self c.in-Ok.found.0 c.push.ensures in
-    item_over (number_front 10000) 44 59 (MAX_PICKS - length c.args.picks.now) c.in-Some.byte.now c.args.bytes.now c.in-Ok.found.1.now
-    c.in-Some.behind.now c.in-Ok.found.0
-    (omega (arith, count, ap length c.as_slice.ensures.value, c.if-as_slice-eq-MAX_PICKS.true)) c.in-Ok.ensures.found c.in-Some.ensures.cases.0
-    c.if-byte-eq59.false c.if-byte-ne44.false
+    item_over (number_front 10000) 44 59 (MAX_PICKS - length c.args.picks.now) c.in-Some.byte.now c.args.bytes.now
+    c.in-Ok.found.1.now c.in-Some.behind.now c.in-Ok.found.0
+    (omega (arith, count, ap length c.as_slice.ensures.value, c.if-as_slice-eq-MAX_PICKS.true)) c.in-Ok.ensures.found
+    c.in-Some.ensures.cases.0 c.if-byte-eq59.false c.if-byte-ne44.false
 
 -- the first number, and those that are found behind it
 pub returns-clause-found : goal.returns-clause-found
@@ -45,9 +49,10 @@ returns-clause-found t c =
     (λ rest h. (
       c.in-Ok.found.0 ∷ h.0,
       h.1 ∙ ap (λ (l : List ℕ). l ++ h.0) c.push.ensures ∙ append_assoc c.args.picks.now (c.in-Ok.found.0 ∷ []) h.0,
-      item_more_found (number_front 10000) 44 59 (MAX_PICKS - length c.args.picks.now) (MAX_PICKS - length c.push.new.self) c.in-Some.byte.now
-          c.args.bytes.now c.in-Ok.found.1.now c.in-Some.behind.now rest.now c.in-Ok.found.0 h.0 (omega arith) (omega (arith, count))
-          c.in-Ok.ensures.found c.in-Some.ensures.cases.0 c.if-byte-eq59.false c.if-byte-ne44.false h.2,
+      item_more_found (number_front 10000) 44 59 (MAX_PICKS - length c.args.picks.now)
+          (MAX_PICKS - length c.push.new.self) c.in-Some.byte.now
+          c.args.bytes.now c.in-Ok.found.1.now c.in-Some.behind.now rest.now c.in-Ok.found.0 h.0 (omega arith) (omega
+          (arith, count)) c.in-Ok.ensures.found c.in-Some.ensures.cases.0 c.if-byte-eq59.false c.if-byte-ne44.false h.2,
     ))
     c.numbers.ensures.found
 
@@ -55,7 +60,7 @@ pub returns-clause-missing : goal.returns-clause-missing
 returns-clause-missing t c =
     let count = one_more c.args.picks.now c.push.new.self c.in-Ok.found.0 c.push.ensures in
     map_err c.numbers.result
-    (λ why h. item_more_missing (number_front 10000) 44 59 (MAX_PICKS - length c.args.picks.now) (MAX_PICKS - length c.push.new.self) c.in-Some.byte.now
-    c.args.bytes.now c.in-Ok.found.1.now c.in-Some.behind.now c.in-Ok.found.0 why (omega arith) (omega (arith, count))
-    c.in-Ok.ensures.found c.in-Some.ensures.cases.0 c.if-byte-eq59.false c.if-byte-ne44.false h)
-    c.numbers.ensures.missing
+    (λ why h. item_more_missing (number_front 10000) 44 59 (MAX_PICKS - length c.args.picks.now)
+    (MAX_PICKS - length c.push.new.self) c.in-Some.byte.now c.args.bytes.now c.in-Ok.found.1.now c.in-Some.behind.now
+    c.in-Ok.found.0 why (omega arith) (omega (arith, count)) c.in-Ok.ensures.found c.in-Some.ensures.cases.0
+    c.if-byte-eq59.false c.if-byte-ne44.false h) c.numbers.ensures.missing

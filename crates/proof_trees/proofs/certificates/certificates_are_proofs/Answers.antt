@@ -1,4 +1,5 @@
-use Rattle.proof_trees.proofs.CertificateTrees.{Shows-proof_of, learned-proof_of, tree_without_lemmas, HasNoLemmas-proof_of}
+use Rattle.proof_trees.proofs.CertificateTrees.{Shows-proof_of, learned-proof_of, tree_without_lemmas}
+use Rattle.proof_trees.proofs.CertificateTrees.{HasNoLemmas-proof_of}
 use Rattle.proof_trees.proofs.certificates.certificates_are_proofs.Goals as goal
 
 pub returns-clause-shows : goal.returns-clause-shows

@@ -21,7 +21,8 @@ use_lemma-requires-clause-here g c =
 pub returns-in_default-clause-nodes : goal.returns-in_default-clause-nodes
 returns-in_default-clause-nodes g c =
     on_ok_weaker c.next.result
-    (own_others c.args.walk.now c.next.new.self (g.A.Asker.is_own c.args.asker.now) c.requires.nodes) c.next.ensures.nodes
+    (own_others c.args.walk.now c.next.new.self (g.A.Asker.is_own c.args.asker.now) c.requires.nodes)
+    c.next.ensures.nodes
 
 pub returns-in_default-clause-front : goal.returns-in_default-clause-front
 returns-in_default-clause-front g c = c.next.ensures.front

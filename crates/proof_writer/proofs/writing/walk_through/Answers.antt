@@ -8,7 +8,8 @@ use Rattle.proof_writer.proofs.writing.walk_through.Goals as goal
 pub turns-init : goal.turns-init
 turns-init g c = record {
   lemmas = lemmas_kept c.first.ensures.same c.args.lemmas.now c.requires;
-  nodes = λ n has. subst (g.A.Asker.is_own c.first.new.self) (c.in_ok-walk.ensures.nodes n has) c.in_ok-first.ensures.begins.0;
+  nodes = λ n has. subst (g.A.Asker.is_own c.first.new.self) (c.in_ok-walk.ensures.nodes n has)
+      c.in_ok-first.ensures.begins.0;
   front = ExtendsText-refl c.args.out.now.items;
   same = c.first.ensures.same;
   taken = none_taken c.in_ok-walk.ensures.left c.first.ensures.told;
@@ -21,21 +22,24 @@ turns-preserved g c =
       lemmas = lemmas_kept c.turn.ensures.same c.args.lemmas.now known.lemmas;
       nodes = c.in_ok-ending.ensures.nodes;
       front =
-          ExtendsText-trans c.args.out.now.items c.turns.out.items c.turn.new.out.items known.front c.turn.ensures.front;
+          ExtendsText-trans c.args.out.now.items c.turns.out.items c.turn.new.out.items
+          known.front c.turn.ensures.front;
       same = KeepsStarts-trans known.same c.turn.ensures.same;
       taken = HasTaken-trans known.taken (rw c.in_default.is at c.in_ok-ending.ensures.taken);
     }
 
 pub returns-in-Some-clause-front : goal.returns-in-Some-clause-front
 returns-in-Some-clause-front g c =
-    ExtendsText-trans c.args.out.now.items c.turns.out.items c.turn.new.out.items c.turns.invariant.front c.turn.ensures.front
+    ExtendsText-trans c.args.out.now.items c.turns.out.items c.turn.new.out.items
+    c.turns.invariant.front c.turn.ensures.front
 
 pub returns-in-Some-clause-same : goal.returns-in-Some-clause-same
 returns-in-Some-clause-same g c = KeepsStarts-trans c.turns.invariant.same c.turn.ensures.same
 
 pub returns-in_err-ending-clause-front : goal.returns-in_err-ending-clause-front
 returns-in_err-ending-clause-front g c =
-    ExtendsText-trans c.args.out.now.items c.turns.out.items c.turn.new.out.items c.turns.invariant.front c.turn.ensures.front
+    ExtendsText-trans c.args.out.now.items c.turns.out.items c.turn.new.out.items
+    c.turns.invariant.front c.turn.ensures.front
 
 pub returns-in_err-ending-clause-same : goal.returns-in_err-ending-clause-same
 returns-in_err-ending-clause-same g c = KeepsStarts-trans c.turns.invariant.same c.turn.ensures.same

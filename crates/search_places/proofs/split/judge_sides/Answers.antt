@@ -13,7 +13,9 @@ pub returns-in-OnlyNo : goal.returns-in-OnlyNo
 returns-in-OnlyNo c =
     let tables = c.args.tables.now.items in
     let place = last_place tables c.args.tables.now.len c.len-last.result c.args.tables.now.ok.0 c.len-last.ensures in
-    let read = last_at tables c.index.result.now (c.len-last.result - 1) c.requires.some place (sym c.index.ensures) in (
+    let read = last_at tables c.index.result.now (c.len-last.result - 1) c.requires.some place
+    (sym c.index.ensures) in (
       refl,
-      subst (λ (x : Rows). HasRoomForSides x c.args.number c.args.lit OnlyNo) (sym read) (rw c.in-OnlyNo.is at c.room_of.ensures),
+      subst (λ (x : Rows). HasRoomForSides x c.args.number c.args.lit OnlyNo) (sym read)
+          (rw c.in-OnlyNo.is at c.room_of.ensures),
     )

@@ -1,4 +1,5 @@
-use Rattle.std.proofs.Common.{◌≡◌, ℕ, ◌+◌, ◌-◌, true, false, List, [], ◌∷◌, ◌++◌, length, set, get_or, subst, ap, ◌∙◌, arith}
+use Rattle.std.proofs.Common.{◌≡◌, ℕ, ◌+◌, ◌-◌, true, false, List, [], ◌∷◌, ◌++◌, length, set, get_or, subst, ap, ◌∙◌}
+use Rattle.std.proofs.Common.{arith}
 use Rattle.diff_bounds.specs.Kept.{Rows}
 use Rattle.search_places.specs.Sides.{AddsAnswer}
 use Rattle.search_places.proofs.Splitting.{first_read, second_read, both_written}
@@ -25,5 +26,6 @@ returns c =
       of_no,
       subst (λ (x : Rows). AddsAnswer c.args.number c.args.lit true x of_yes) (copy ∙ at_last) c.answer-2.ensures,
       subst (λ (x : Rows). AddsAnswer c.args.number c.args.lit false x of_no) (read ∙ at_last) c.answer.ensures,
-      both_written before pushed last table [] size of_no of_yes is ∙ ap (λ (n : ℕ). set before n of_no ++ of_yes ∷ []) place,
+      both_written before pushed last table [] size of_no of_yes is
+          ∙ ap (λ (n : ℕ). set before n of_no ++ of_yes ∷ []) place,
     )

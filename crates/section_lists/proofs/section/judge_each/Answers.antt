@@ -16,7 +16,8 @@ loop-ob-init g c = record {
   between = c.requires.between;
   lines = c.requires.lines;
   leads =
-      leads_same g.F.Feed (plan_below (function_of c.args.rules.now) c.args.below) (stand (fed c.args.reader.now c.args.feed.now) []);
+      leads_same g.F.Feed (plan_below (function_of c.args.rules.now) c.args.below)
+      (stand (fed c.args.reader.now c.args.feed.now) []);
   leaves = not_yet g.F.Feed (fed c.args.reader.now c.args.feed.now);
 }
 
@@ -25,7 +26,8 @@ judge_section-requires-clause-bounded g c = c.requires.bounded
 
 pub judge_section-requires-clause-listed : goal.judge_section-requires-clause-listed
 judge_section-requires-clause-listed g c =
-    all_at (is_obligation (function_of c.args.rules.now).head) c.args.names.now c.loop-ob.ob-index _ c.requires.listed c.loop-ob-test.true
+    all_at (is_obligation (function_of c.args.rules.now).head) c.args.names.now c.loop-ob.ob-index _
+    c.requires.listed c.loop-ob-test.true
 
 pub judge_section-requires-clause-between : goal.judge_section-requires-clause-between
 judge_section-requires-clause-between g c = c.loop-ob.invariant.between
@@ -36,7 +38,8 @@ judge_section-requires-clause-room g c = omega (arith, c.requires.room, c.loop-o
 pub judge_section-requires-clause-line : goal.judge_section-requires-clause-line
 judge_section-requires-clause-line g c = (
   drop (c.loop-ob.ob-index + 1) c.args.names.now,
-  line_at c.args.names.now c.loop-ob.ob-index _ (reader_place_of c.loop-ob.reader) c.loop-ob-test.true c.loop-ob.invariant.lines,
+  line_at c.args.names.now c.loop-ob.ob-index _ (reader_place_of c.loop-ob.reader) c.loop-ob-test.true
+      c.loop-ob.invariant.lines,
 )
 
 -- one section more was judged
@@ -46,31 +49,34 @@ loop-ob-preserved g c =
       between = c.in_ok-judge_section.ensures.behind.0;
       lines =
           c.in_ok-judge_section.ensures.behind.1 (drop (c.loop-ob.ob-index + 1) c.args.names.now)
-          (line_at c.args.names.now c.loop-ob.ob-index _ (reader_place_of c.loop-ob.reader) c.loop-ob-test.true c.loop-ob.invariant.lines);
+          (line_at c.args.names.now c.loop-ob.ob-index _ (reader_place_of c.loop-ob.reader) c.loop-ob-test.true
+          c.loop-ob.invariant.lines);
       leads =
-          leads_on g.F.Feed (plan_below (function_of c.args.rules.now) c.args.below) (stand (fed c.args.reader.now c.args.feed.now) [])
-          (stand (fed c.loop-ob.reader c.loop-ob.feed) []) (stand (fed c.judge_section.new.reader c.judge_section.new.feed) []) c.loop-ob.invariant.leads
-          c.in_ok-judge_section.ensures.leads;
+          leads_on g.F.Feed (plan_below (function_of c.args.rules.now) c.args.below)
+          (stand (fed c.args.reader.now c.args.feed.now) [])
+          (stand (fed c.loop-ob.reader c.loop-ob.feed) []) (stand (fed c.judge_section.new.reader
+          c.judge_section.new.feed) []) c.loop-ob.invariant.leads c.in_ok-judge_section.ensures.leads;
       leaves =
           leaves_on g.F.Feed (fed c.args.reader.now c.args.feed.now) (fed c.loop-ob.reader c.loop-ob.feed)
           (fed c.judge_section.new.reader c.judge_section.new.feed) (Ok tt) c.loop-ob.invariant.leaves
-          (goes_on_by g.F.Feed (fed c.loop-ob.reader c.loop-ob.feed) (fed c.judge_section.new.reader c.judge_section.new.feed) _
-          (rw c.in_ok-judge_section.was at c.judge_section.ensures.leaves));
+          (goes_on_by g.F.Feed (fed c.loop-ob.reader c.loop-ob.feed) (fed c.judge_section.new.reader
+          c.judge_section.new.feed) _ (rw c.in_ok-judge_section.was at c.judge_section.ensures.leaves));
     }
 
 pub returns-in_err-judge_section-clause-refused : goal.returns-in_err-judge_section-clause-refused
 returns-in_err-judge_section-clause-refused g c =
     let p = err_from_is_err_and c.from_residual.result c.from_residual.ensures.1 in
     rw (p.1, p.2)
-    (refused_through g.F.Feed (plan_below (function_of c.args.rules.now) c.args.below) (stand (fed c.args.reader.now c.args.feed.now) [])
-    (stand (fed c.loop-ob.reader c.loop-ob.feed) []) c.judge_section.new.feed c.in_err-judge_section.field-0.0 c.loop-ob.invariant.leads
-    c.in_err-judge_section.ensures.refused)
+    (refused_through g.F.Feed (plan_below (function_of c.args.rules.now) c.args.below) (stand (fed c.args.reader.now
+    c.args.feed.now) []) (stand (fed c.loop-ob.reader c.loop-ob.feed) []) c.judge_section.new.feed
+    c.in_err-judge_section.field-0.0 c.loop-ob.invariant.leads c.in_err-judge_section.ensures.refused)
 
 pub returns-in_err-judge_section-clause-leaves : goal.returns-in_err-judge_section-clause-leaves
 returns-in_err-judge_section-clause-leaves g c =
     let p = err_from_is_err_and c.from_residual.result c.from_residual.ensures.1 in
     rw (p.1, p.2)
-    (leaves_on g.F.Feed (fed c.args.reader.now c.args.feed.now) (fed c.loop-ob.reader c.loop-ob.feed) (fed c.judge_section.new.reader c.judge_section.new.feed)
+    (leaves_on g.F.Feed (fed c.args.reader.now c.args.feed.now) (fed c.loop-ob.reader c.loop-ob.feed)
+    (fed c.judge_section.new.reader c.judge_section.new.feed)
     _ c.loop-ob.invariant.leaves (rw c.in_err-judge_section.was at c.judge_section.ensures.leaves))
 
 pub returns-clause-leads : goal.returns-clause-leads

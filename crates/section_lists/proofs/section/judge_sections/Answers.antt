@@ -15,13 +15,18 @@ returns-in_err-judge_each-clause-refused g c =
 
 pub returns-clause-whole : goal.returns-clause-whole
 returns-clause-whole g c =
-    answers_through g.F.Feed (plan_below (function_of c.args.rules.now) c.args.below) (stand (fed c.args.reader.now c.args.feed.now) [])
-    (stand (fed c.judge_each.new.reader c.judge_each.new.feed) []) c.read_end.new.feed c.read_end.result c.in_ok-judge_each.ensures.leads
-    (on_ok_weaker c.read_end.result (λ any. any (plan_below (function_of c.args.rules.now) c.args.below)) c.read_end.ensures.whole)
+    answers_through g.F.Feed (plan_below (function_of c.args.rules.now) c.args.below)
+    (stand (fed c.args.reader.now c.args.feed.now) [])
+    (stand (fed c.judge_each.new.reader c.judge_each.new.feed) []) c.read_end.new.feed c.read_end.result
+    c.in_ok-judge_each.ensures.leads
+    (on_ok_weaker c.read_end.result (λ any. any (plan_below (function_of c.args.rules.now) c.args.below))
+    c.read_end.ensures.whole)
 
 pub returns-clause-refused : goal.returns-clause-refused
 returns-clause-refused g c =
-    errors_through g.F.Feed (plan_below (function_of c.args.rules.now) c.args.below) (stand (fed c.args.reader.now c.args.feed.now) [])
-    (stand (fed c.judge_each.new.reader c.judge_each.new.feed) []) c.read_end.new.feed c.read_end.result c.in_ok-judge_each.ensures.leads
-    (any_plan g.F.Feed (plan_below (function_of c.args.rules.now) c.args.below) (stand (fed c.judge_each.new.reader c.judge_each.new.feed) [])
-    c.read_end.new.feed c.read_end.result c.read_end.ensures.refused)
+    errors_through g.F.Feed (plan_below (function_of c.args.rules.now) c.args.below)
+    (stand (fed c.args.reader.now c.args.feed.now) [])
+    (stand (fed c.judge_each.new.reader c.judge_each.new.feed) []) c.read_end.new.feed c.read_end.result
+    c.in_ok-judge_each.ensures.leads
+    (any_plan g.F.Feed (plan_below (function_of c.args.rules.now) c.args.below) (stand (fed c.judge_each.new.reader
+    c.judge_each.new.feed) []) c.read_end.new.feed c.read_end.result c.read_end.ensures.refused)

@@ -31,5 +31,6 @@ over-requires c =
     (subst (λ (o : SymOp). IsNearOp 99 o) (sym c.named-b.ensures.value) second_near) in
     let short : comparisons_left (form_tree c.in_ok-form.form.now) ≤ 99 =
     subst (λ (t : FormTree). comparisons_left t ≤ 99) (sym c.in_ok-form.ensures.tree) (omega arith) in
-    guard_goal c.conditions_are_nodes.ensures.conditions f ob _ Undefined _ _ _ c.in_ok-on_yes.ensures c.in_ok-on_no.ensures
+    guard_goal c.conditions_are_nodes.ensures.conditions f ob _ Undefined _ _ _
+    c.in_ok-on_yes.ensures c.in_ok-on_no.ensures
     c.in_ok-goal.ensures (c.conditions_are_nodes.ensures.ends f ob Undefined c.requires) places short

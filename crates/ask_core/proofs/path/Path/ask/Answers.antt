@@ -9,5 +9,6 @@ returns-clause-ok g c =
     let first = rw c.reserve.ensures.items at c.push_reserved.ensures.items in
     let second = rw c.reserve-2.ensures.items at c.push_reserved-2.ensures.items in
     asked_places c.self.inside.current c.args.yes c.args.no c.args.lit c.self.inside.answers.items
-    c.push_reserved.new.self.items c.self.inside.waiting.items c.push_reserved-2.new.self.items c.args.self.now c.self.view_is
+    c.push_reserved.new.self.items c.self.inside.waiting.items c.push_reserved-2.new.self.items
+    c.args.self.now c.self.view_is
     c.requires c.self.invariant (rw (← c.answered.ensures) first) (rw (← c.answered-2.ensures, ← long) second)

@@ -9,8 +9,8 @@ index_mut-requires g c =
 
 pub returns-in-None : goal.returns-in-None
 returns-in-None g c =
-    closed_last c.self.inside.current c.self.inside.answers.items c.self.inside.waiting.items c.args.self.now c.self.view_is c.requires
-    (sym c.self.inside.waiting.ok.0 ∙ c.in-None.ensures.cases.0)
+    closed_last c.self.inside.current c.self.inside.answers.items c.self.inside.waiting.items c.args.self.now
+    c.self.view_is c.requires (sym c.self.inside.waiting.ok.0 ∙ c.in-None.ensures.cases.0)
 
 pub overflow_add-next : goal.overflow_add-next
 overflow_add-next g c =
@@ -26,6 +26,6 @@ invariant_of-self-in-Some g c =
 
 pub returns-in-Some : goal.returns-in-Some
 returns-in-Some g c =
-    closed_places c.self.inside.current c.self.inside.answers.items c.truncate.new.self.items c.self.inside.waiting.items
-    c.pop.new.self.items c.in-Some.next c.args.self.now c.self.view_is c.requires c.in-Some.ensures.items c.self.invariant
-    c.truncate.ensures.items
+    closed_places c.self.inside.current c.self.inside.answers.items c.truncate.new.self.items
+    c.self.inside.waiting.items c.pop.new.self.items c.in-Some.next c.args.self.now c.self.view_is c.requires
+    c.in-Some.ensures.items c.self.invariant c.truncate.ensures.items

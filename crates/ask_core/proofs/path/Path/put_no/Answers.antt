@@ -12,5 +12,6 @@ pub returns-then-len-capacity-clause-put : goal.returns-then-len-capacity-clause
 returns-then-len-capacity-clause-put g c put on_yes =
     let longer : c.push_reserved.new.self.items ≡ c.self.inside.answers.items ++ answered_of c.args.lit false ∷ [] =
     rw c.answered.ensures at c.push_reserved.ensures.items in
-    answered_no c.self.inside.current on_yes c.args.no c.args.lit c.self.inside.answers.items c.push_reserved.new.self.items
+    answered_no c.self.inside.current on_yes c.args.no c.args.lit c.self.inside.answers.items
+    c.push_reserved.new.self.items
     c.self.inside.waiting.items c.args.self.now c.self.view_is c.requires c.self.invariant longer

@@ -15,10 +15,11 @@ invariant_of-self g c =
     elim c.match-ask.branch [
       | in-Ok w ↦
           IsUnderWay-taken places token.Ask c.self.invariant c.ask.new.self
-          (own_after (g.A.Asker.is_own asker) places c.ask.new.self q.lit q.yes q.no w.in-Ok.ensures.ok asked.own_yes asked.own_no
-          c.self.invariant.own) refl c.trees_are_judged_token_by_token.ensures tt
-          (question_taken (g.A.Asker.plan asker) places c.ask.new.self q.lit q.yes q.no asked.some asked.asks w.in-Ok.ensures.ok)
+          (own_after (g.A.Asker.is_own asker) places c.ask.new.self q.lit q.yes q.no w.in-Ok.ensures.ok asked.own_yes
+          asked.own_no c.self.invariant.own) refl c.trees_are_judged_token_by_token.ensures tt
+          (question_taken (g.A.Asker.plan asker) places c.ask.new.self q.lit q.yes q.no asked.some
+          asked.asks w.in-Ok.ensures.ok)
       | in-Err w ↦
-          IsUnderWay-refused places token.Ask c.self.invariant c.ask.new.self (rw w.in-Err.ensures.err c.self.invariant.own) refl
-          (rw w.in-Err.ensures.err refl)
+          IsUnderWay-refused places token.Ask c.self.invariant c.ask.new.self
+          (rw w.in-Err.ensures.err c.self.invariant.own) refl (rw w.in-Err.ensures.err refl)
     ]

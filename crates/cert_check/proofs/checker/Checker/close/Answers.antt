@@ -10,7 +10,7 @@ invariant_of-self g c =
     let places = c.self.inside.path in
     let view = c.self.view_is in
     IsUnderWay-taken places (token.Cycle picks) c.self.invariant c.close.new.self
-    (own_behind (g.A.Asker.is_own c.self.inside.asker) places c.close.new.self c.close.ensures c.self.invariant.own) refl
-    c.trees_are_judged_token_by_token.ensures c.requires.cycle.1
-    (cycle_taken (g.A.Asker.plan c.self.inside.asker) places c.close.new.self picks (rw (← view) at c.requires.open) c.close.ensures
-    (rw (← view) at c.requires.cycle.2))
+    (own_behind (g.A.Asker.is_own c.self.inside.asker) places c.close.new.self c.close.ensures c.self.invariant.own)
+    refl c.trees_are_judged_token_by_token.ensures c.requires.cycle.1
+    (cycle_taken (g.A.Asker.plan c.self.inside.asker) places c.close.new.self picks (rw (← view) at c.requires.open)
+    c.close.ensures (rw (← view) at c.requires.cycle.2))

@@ -24,7 +24,8 @@ invariant_of-self-in-Err g c =
 pub returns-in-Ok-clause-completes : goal.returns-in-Ok-clause-completes
 returns-in-Ok-clause-completes g c tokens =
     rw (← c.self.view_is)
-    (Completes-step c.trees_are_judged_token_by_token.ensures c.args.tok.now _ _ tokens c.in-Ok.ensures.few c.in-Ok.ensures.ok)
+    (Completes-step c.trees_are_judged_token_by_token.ensures c.args.tok.now _ _ tokens
+    c.in-Ok.ensures.few c.in-Ok.ensures.ok)
 
 pub returns-in-Ok-2-clause-completes : goal.returns-in-Ok-2-clause-completes
 returns-in-Ok-2-clause-completes g c tokens =
@@ -47,4 +48,5 @@ returns-in-Ok-2-clause-done g c done v =
 pub returns-in-Err-clause-refused : goal.returns-in-Err-clause-refused
 returns-in-Err-clause-refused g c none other tokens =
     rw (← c.self.view_is)
-    (Completes-none c.trees_are_judged_token_by_token.ensures c.args.tok.now _ c.in-Err.end tokens c.in-Err.ensures.why other)
+    (Completes-none c.trees_are_judged_token_by_token.ensures c.args.tok.now _ c.in-Err.end tokens
+    c.in-Err.ensures.why other)

@@ -19,7 +19,8 @@ invariant_of-self g c =
     let answers = answers_after places q.lit q.yes q.no asked.some in
     let picks = c.requires.cycle.0 in
     let cycle = rw (← view) at c.requires.cycle.2 in
-    let own = own_after (g.A.Asker.is_own asker) places between q.lit q.yes q.no refl asked.own_yes asked.own_no c.self.invariant.own in
+    let own = own_after (g.A.Asker.is_own asker) places between q.lit q.yes q.no refl asked.own_yes
+    asked.own_no c.self.invariant.own in
     let opened =
     IsUnderWay-taken places token.Ask c.self.invariant between own refl c.trees_are_judged_token_by_token.ensures tt
     (question_taken plan places between q.lit q.yes q.no asked.some asked.asks refl) in
@@ -30,8 +31,8 @@ invariant_of-self g c =
           c.trees_are_judged_token_by_token.ensures c.requires.cycle.1
           (cycle_taken plan between c.ask_no.new.self picks answers.1 (w.in-Ok.ensures.ok q.yes) (rw answers.0 cycle))
       | in-Err w ↦
-          IsUnderWay-refused places token.Ask c.self.invariant c.ask_no.new.self (rw w.in-Err.ensures.err c.self.invariant.own) refl
-          (rw w.in-Err.ensures.err refl)
+          IsUnderWay-refused places token.Ask c.self.invariant c.ask_no.new.self
+          (rw w.in-Err.ensures.err c.self.invariant.own) refl (rw w.in-Err.ensures.err refl)
     ]
 
 -- the question's token is taken, and then that of the cycle

@@ -8,4 +8,5 @@ pub returns-then-self : goal.returns-then-self
 returns-then-self c =
     λ lits picks walks low.
     rw (append-nil picks) at
-    (walks [] (closes_there lits c.args.self.name c.args.self.start c.args.self.sum c.if-self.true (grind (arith, ints, low))))
+    (walks [] (closes_there lits c.args.self.name c.args.self.start c.args.self.sum c.if-self.true
+    (grind (arith, ints, low))))

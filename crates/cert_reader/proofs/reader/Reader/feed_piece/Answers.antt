@@ -19,13 +19,15 @@ returns-in-Some c =
 pub returns-in-None : goal.returns-in-None
 returns-in-None c =
     let given =
-    subst (λ (p : ReaderState). GivesOf p c.args.piece.now c.feed_each.result.0 c.feed_each.result.1 c.feed_each.new.self) c.in-None.ensures.none
-    c.feed_each.ensures.gives in
-    let taken = piece_within c.args.self.now c.feed_each.new.self c.args.piece.now c.feed_each.result.0 c.feed_each.result.1 given in
+    subst (λ (p : ReaderState). GivesOf p c.args.piece.now c.feed_each.result.0 c.feed_each.result.1
+    c.feed_each.new.self) c.in-None.ensures.none c.feed_each.ensures.gives in
+    let taken = piece_within c.args.self.now c.feed_each.new.self c.args.piece.now c.feed_each.result.0
+    c.feed_each.result.1 given in
     record {
       gives = given;
       within = taken.0;
       some = taken.1;
       fed = search rules;
-      reads = piece_reads c.args.self.now c.feed_each.new.self c.args.piece.now c.feed_each.result.0 c.feed_each.result.1 given;
+      reads = piece_reads c.args.self.now c.feed_each.new.self c.args.piece.now c.feed_each.result.0
+          c.feed_each.result.1 given;
     }

@@ -17,7 +17,8 @@ returns-then-as_slice-eq-MAX_PICKS c =
 pub returns : goal.returns
 returns c =
     let short : c.in-Some.number < PICK_LIMIT = subst IsShortNumber c.in-Some.is c.requires.begun.2 in
-    let text = front_with_comma c.args.self.picks c.push.new.self c.args.self.number c.in-Some.number c.push.ensures c.in-Some.is in
+    let text = front_with_comma c.args.self.picks c.push.new.self c.args.self.number c.in-Some.number
+    c.push.ensures c.in-Some.is in
     let few : length c.push.new.self < 12 =
     omega (
       arith,
@@ -27,5 +28,6 @@ returns c =
       ap length c.push.ensures,
       length-append c.args.self.picks (c.in-Some.number ∷ []),
     ) in
-    let all : AreShort c.push.new.self = rw c.push.ensures (AreShort-push c.args.self.picks c.in-Some.number c.requires.begun.1 short) in
+    let all : AreShort c.push.new.self =
+    rw c.push.ensures (AreShort-push c.args.self.picks c.in-Some.number c.requires.begun.1 short) in
     ((few, all, tt, one_longer _ 44 (cycle_text c.args.self.picks c.args.self.number) _ c.requires.begun.3 text), text)

@@ -12,5 +12,6 @@ returns c =
     let short : c.in-Some.number < PICK_LIMIT = subst IsShortNumber c.in-Some.is c.requires.begun.2 in
     let len : length c.push.new.self ≡ length c.args.self.picks + 1 =
     omega (arith, ap length c.push.ensures, length-append c.args.self.picks (c.in-Some.number ∷ [])) in
-    let all : AreShort c.push.new.self = rw c.push.ensures (AreShort-push c.args.self.picks c.in-Some.number c.requires.begun.1 short) in
+    let all : AreShort c.push.new.self =
+    rw c.push.ensures (AreShort-push c.args.self.picks c.in-Some.number c.requires.begun.1 short) in
     ((omega arith, omega (arith, c.requires.begun.0), all), whole_with_end _ _ _ _ c.push.ensures c.in-Some.is)

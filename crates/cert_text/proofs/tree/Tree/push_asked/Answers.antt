@@ -12,13 +12,17 @@ invariant_of-self-2 g c =
     let picks = c.args.first ∷ g.C.CycleNumbers.left c.args.others in
     let between = IsTreeAt-pushed c.self.inside.start old (old ++ token_text Ask) Ask c.self.invariant tt refl in
     IsTreeAt-pushed c.self.inside.start (old ++ token_text Ask) c.write_asked.new.out.items (Cycle picks) between
-    c.in_ok-write_asked.ensures.words (behind_question old c.write_asked.new.out.items picks c.in_ok-write_asked.ensures.ok)
+    c.in_ok-write_asked.ensures.words (behind_question old c.write_asked.new.out.items picks
+    c.in_ok-write_asked.ensures.ok)
 
 pub returns-clause-ok : goal.returns-clause-ok
 returns-clause-ok g c =
     let old = c.self.inside.text.items in
     let picks = c.args.first ∷ g.C.CycleNumbers.left c.args.others in
     let between = IsTreeAt-pushed c.self.inside.start old (old ++ token_text Ask) Ask c.self.invariant tt refl in
-    pushed_token c.self.inside.start (old ++ token_text Ask) c.write_asked.new.out.items (Cycle picks) (with_token c.args.self.now Ask) between
-    (pushed_token c.self.inside.start old (old ++ token_text Ask) Ask c.args.self.now c.self.invariant c.self.view_is tt refl)
-    c.in_ok-write_asked.ensures.words (behind_question old c.write_asked.new.out.items picks c.in_ok-write_asked.ensures.ok)
+    pushed_token c.self.inside.start (old ++ token_text Ask) c.write_asked.new.out.items (Cycle picks)
+    (with_token c.args.self.now Ask) between
+    (pushed_token c.self.inside.start old (old ++ token_text Ask) Ask c.args.self.now
+    c.self.invariant c.self.view_is tt refl)
+    c.in_ok-write_asked.ensures.words (behind_question old c.write_asked.new.out.items picks
+    c.in_ok-write_asked.ensures.ok)

@@ -20,7 +20,7 @@ returns-then-put_asked-clause-put g c put =
     let old = c.self.inside.text.items in
     let picks = c.args.first ∷ g.C.CycleNumbers.left c.args.others in
     let between = IsTreeAt-pushed c.self.inside.start old (old ++ token_text Ask) Ask c.self.invariant tt refl in
-    pushed_token c.self.inside.start (old ++ token_text Ask) c.put_asked.new.out.items (Cycle picks) (with_token c.args.self.now Ask) between
-    (pushed_token c.self.inside.start old (old ++ token_text Ask) Ask c.args.self.now c.self.invariant c.self.view_is tt refl)
-    (c.put_asked.ensures.words c.if-put_asked.true)
+    pushed_token c.self.inside.start (old ++ token_text Ask) c.put_asked.new.out.items (Cycle picks)
+    (with_token c.args.self.now Ask) between (pushed_token c.self.inside.start old (old ++ token_text Ask) Ask
+    c.args.self.now c.self.invariant c.self.view_is tt refl) (c.put_asked.ensures.words c.if-put_asked.true)
     (behind_question old c.put_asked.new.out.items picks (c.put_asked.ensures.put c.if-put_asked.true))

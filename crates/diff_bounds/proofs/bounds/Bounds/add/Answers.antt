@@ -28,5 +28,6 @@ returns-clause-same g c = λ ps stands follows.
     let lit = c.args.lit in
     let most : IsAtMost (kept_of c.args.self.now lit.x lit.y) lit.k =
     (stands.tight lit.x lit.y c.requires.named.0 c.requires.named.1 lit.k).1 follows in
-    let kept = subst (λ (rows : List (List (Option Hop))). IsAtMost (kept_of rows lit.x lit.y) lit.k) (sym c.self.view_is) most in
+    let kept = subst (λ (rows : List (List (Option Hop))). IsAtMost (kept_of rows lit.x lit.y) lit.k)
+    (sym c.self.view_is) most in
     c.insert.ensures.same kept ∙ c.self.view_is

@@ -21,6 +21,6 @@ returns-clause-ok g c =
       c.args.number ∷ numbers_along (λ x. kept_of rows x lit.x) g.row.N lit.y lit.x,
       picks',
       λ ps stands.
-          c.tables_tell_what_is_possible.ensures.cycle g.row.N (kept_of rows) ps c.args.number lit stands c.requires.named
-          c.requires.not_allowed,
+          c.tables_tell_what_is_possible.ensures.cycle g.row.N (kept_of rows) ps c.args.number lit stands
+          c.requires.named c.requires.not_allowed,
     )

@@ -7,7 +7,8 @@ use Rattle.diff_bounds.proofs.bounds.Bounds.tightest.Goals as goal
 
 pub returns : goal.returns
 returns g c = λ ps stands.
-    let is_kept = sym (ap (λ (rows : List (List (Option Hop))). kept_of rows c.args.x c.args.y) c.self.view_is) ∙ sym c.kept.ensures in
+    let is_kept = sym (ap (λ (rows : List (List (Option Hop))). kept_of rows c.args.x c.args.y) c.self.view_is)
+    ∙ sym c.kept.ensures in
     let same : c.map.result ≡ option_map (λ (h : Hop). h.k) c.kept.result = search rules in
     subst (λ (o : Option ℤ). IsTightest (literals_of ps) c.args.x c.args.y o) (sym same)
     (IsTightest-kept g.row.N

@@ -6,4 +6,5 @@ use Rattle.fn_rules.proofs.rules.Rules.head.Goals as goal
 
 pub returns-clause-valid : goal.returns-clause-valid
 unfolding function_of
-returns-clause-valid c = is_valid-buildable c.args.self.now.head (map block_of c.args.self.now.blocks.items) c.args.self.now.within_limits
+returns-clause-valid c =
+    is_valid-buildable c.args.self.now.head (map block_of c.args.self.now.blocks.items) c.args.self.now.within_limits

@@ -17,10 +17,13 @@ overflow_sub-cycles g c =
     let depth : c.len-depth.result ≡ length c.self.inside.list.items = c.len-depth.ensures ∙ c.self.inside.list.ok.0 in
     let ls = c.as_slice.result.now ++ c.as_slice-2.result.now in
     let waits = rw depth at c.in_ok-wait_for_all.ensures.ok in
-    let before : c.len-before.result ≡ length c.self.inside.waiting.items = c.len-before.ensures ∙ c.self.inside.waiting.ok.0 in
-    let now : c.len.result ≡ length c.wait_for_all.new.waiting.items = c.len.ensures ∙ c.wait_for_all.new.waiting.ok.0 in
+    let before : c.len-before.result ≡ length c.self.inside.waiting.items = c.len-before.ensures
+    ∙ c.self.inside.waiting.ok.0 in
+    let now : c.len.result ≡ length c.wait_for_all.new.waiting.items = c.len.ensures
+    ∙ c.wait_for_all.new.waiting.ok.0 in
     let more : length c.wait_for_all.new.waiting.items ≡ length ls + length c.self.inside.waiting.items =
-    cycles_more (length c.self.inside.list.items) ls c.self.inside.waiting.items c.wait_for_all.new.waiting.items waits in
+    cycles_more (length c.self.inside.list.items) ls c.self.inside.waiting.items
+    c.wait_for_all.new.waiting.items waits in
     omega (arith, before, now, more)
 
 -- what waits innermost are the cycles that were just put there
@@ -29,14 +32,18 @@ forget-requires g c =
     let depth : c.len-depth.result ≡ length c.self.inside.list.items = c.len-depth.ensures ∙ c.self.inside.list.ok.0 in
     let ls = c.as_slice.result.now ++ c.as_slice-2.result.now in
     let waits = rw depth at c.in_ok-wait_for_all.ensures.ok in
-    let before : c.len-before.result ≡ length c.self.inside.waiting.items = c.len-before.ensures ∙ c.self.inside.waiting.ok.0 in
-    let now : c.len.result ≡ length c.wait_for_all.new.waiting.items = c.len.ensures ∙ c.wait_for_all.new.waiting.ok.0 in
+    let before : c.len-before.result ≡ length c.self.inside.waiting.items = c.len-before.ensures
+    ∙ c.self.inside.waiting.ok.0 in
+    let now : c.len.result ≡ length c.wait_for_all.new.waiting.items = c.len.ensures
+    ∙ c.wait_for_all.new.waiting.ok.0 in
     let more : length c.wait_for_all.new.waiting.items ≡ length ls + length c.self.inside.waiting.items =
-    cycles_more (length c.self.inside.list.items) ls c.self.inside.waiting.items c.wait_for_all.new.waiting.items waits in
+    cycles_more (length c.self.inside.list.items) ls c.self.inside.waiting.items
+    c.wait_for_all.new.waiting.items waits in
     let cycles : c.len.result - c.len-before.result ≡ length ls = omega (arith, before, now, more) in
     let waiting =
     cycles_waiting c.self.inside.known.items c.self.inside.current c.self.inside.base c.self.inside.list.items ls
-    c.self.inside.waiting.items c.wait_for_all.new.waiting.items c.args.self.now c.self.view_is c.requires.opened waits in
+    c.self.inside.waiting.items c.wait_for_all.new.waiting.items c.args.self.now c.self.view_is
+    c.requires.opened waits in
     rw (c.in-Err.ensures.err, cycles) waiting.0
 
 -- without the cycles the places are as they were
@@ -45,14 +52,18 @@ returns-in-Err-clause-err g c =
     let depth : c.len-depth.result ≡ length c.self.inside.list.items = c.len-depth.ensures ∙ c.self.inside.list.ok.0 in
     let ls = c.as_slice.result.now ++ c.as_slice-2.result.now in
     let waits = rw depth at c.in_ok-wait_for_all.ensures.ok in
-    let before : c.len-before.result ≡ length c.self.inside.waiting.items = c.len-before.ensures ∙ c.self.inside.waiting.ok.0 in
-    let now : c.len.result ≡ length c.wait_for_all.new.waiting.items = c.len.ensures ∙ c.wait_for_all.new.waiting.ok.0 in
+    let before : c.len-before.result ≡ length c.self.inside.waiting.items = c.len-before.ensures
+    ∙ c.self.inside.waiting.ok.0 in
+    let now : c.len.result ≡ length c.wait_for_all.new.waiting.items = c.len.ensures
+    ∙ c.wait_for_all.new.waiting.ok.0 in
     let more : length c.wait_for_all.new.waiting.items ≡ length ls + length c.self.inside.waiting.items =
-    cycles_more (length c.self.inside.list.items) ls c.self.inside.waiting.items c.wait_for_all.new.waiting.items waits in
+    cycles_more (length c.self.inside.list.items) ls c.self.inside.waiting.items
+    c.wait_for_all.new.waiting.items waits in
     let cycles : c.len.result - c.len-before.result ≡ length ls = omega (arith, before, now, more) in
     let waiting =
     cycles_waiting c.self.inside.known.items c.self.inside.current c.self.inside.base c.self.inside.list.items ls
-    c.self.inside.waiting.items c.wait_for_all.new.waiting.items c.args.self.now c.self.view_is c.requires.opened waits in
+    c.self.inside.waiting.items c.wait_for_all.new.waiting.items c.args.self.now c.self.view_is
+    c.requires.opened waits in
     let forgotten : without_cycles (c.len.result - c.len-before.result) c.close.new.self ≡ c.args.self.now =
     rw (c.in-Err.ensures.err, cycles) waiting.1 in
     c.forget.ensures ∙ forgotten

@@ -1,7 +1,8 @@
 use Rattle.std.proofs.Common.{◌≡◌, ◌∙◌, ◌≤◌, length, take, drop, ◌+◌, ◌-◌, arith, refl}
 use Rattle.std.specs.Prelude.{OnErr, Result, Ok, Err}
 use Rattle.open_places.specs.declared.places.WaitingPlace.TheVariants as waiting
-use Rattle.open_places.proofs.PlaceLemmas.{closed_last, closed_places, learned_places, lemma_inside, longer_path, outer_path, shorter_path, popped}
+use Rattle.open_places.proofs.PlaceLemmas.{closed_last, closed_places, learned_places, lemma_inside, longer_path}
+use Rattle.open_places.proofs.PlaceLemmas.{outer_path, shorter_path, popped}
 use Rattle.open_places.proofs.places.Places.close.Goals as goal
 
 pub invariant_of-self-in-Some-Place : goal.invariant_of-self-in-Some-Place
@@ -35,11 +36,13 @@ returns-in_ok-push-in-Some-Lemma-clause-ok g c =
     let list = c.self.inside.list.items in
     let few : (base + count) - base ≡ count = omega arith in
     let taken : c.from_vec.result ≡ take count (drop base list) =
-    c.from_vec.ensures ∙ c.in_ok-literals-in-Some-Lemma.ensures.items ∙ rw (few, c.deref-in-Some-Lemma.ensures.value) refl in
+    c.from_vec.ensures ∙ c.in_ok-literals-in-Some-Lemma.ensures.items
+    ∙ rw (few, c.deref-in-Some-Lemma.ensures.value) refl in
     let same =
     popped c.self.inside.waiting.items c.pop-in-Some-Lemma.new.self.items
     (waiting.Lemma c.in-Some-Lemma.node c.in-Some-Lemma.base count) _ c.self.inside.waiting.ok.0
-    (rw (c.in-Some-Lemma.field-0-is, c.deref.ensures.value) at c.in-Some-Lemma.ensures) c.pop-in-Some-Lemma.ensures.rest in
+    (rw (c.in-Some-Lemma.field-0-is, c.deref.ensures.value) at c.in-Some-Lemma.ensures)
+    c.pop-in-Some-Lemma.ensures.rest in
     learned_places c.self.inside.known.items c.push.new.self.items c.self.inside.current base
     list c.truncate-in-Some-Lemma.new.self.items c.self.inside.waiting.items c.pop-in-Some-Lemma.new.self.items
     c.in-Some-Lemma.node c.in-Some-Lemma.base count c.args.self.now c.self.view_is c.requires
@@ -101,7 +104,9 @@ invariant_of-self-in-Some-Lemma g c =
     let same =
     popped c.self.inside.waiting.items c.pop-in-Some-Lemma.new.self.items
     (waiting.Lemma c.in-Some-Lemma.node c.in-Some-Lemma.base c.in-Some-Lemma.count) _ c.self.inside.waiting.ok.0
-    (rw (c.in-Some-Lemma.field-0-is, c.deref.ensures.value) at c.in-Some-Lemma.ensures) c.pop-in-Some-Lemma.ensures.rest in
+    (rw (c.in-Some-Lemma.field-0-is, c.deref.ensures.value) at c.in-Some-Lemma.ensures)
+    c.pop-in-Some-Lemma.ensures.rest in
     rw c.truncate-in-Some-Lemma.ensures.items
-    (outer_path c.self.inside.base c.self.inside.list.items c.self.inside.waiting.items c.pop-in-Some-Lemma.new.self.items
+    (outer_path c.self.inside.base c.self.inside.list.items c.self.inside.waiting.items
+    c.pop-in-Some-Lemma.new.self.items
     c.in-Some-Lemma.node c.in-Some-Lemma.base c.in-Some-Lemma.count c.self.invariant same)

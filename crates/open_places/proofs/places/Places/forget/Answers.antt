@@ -25,7 +25,9 @@ returns g c =
     let cut =
     forgotten_places c.self.inside.known.items c.self.inside.current c.self.inside.base c.self.inside.list.items
     c.self.inside.waiting.items c.args.cycles c.args.self.now c.self.view_is c.requires c.self.invariant in
-    let left : c.truncate.new.self.items ≡ take (length c.self.inside.waiting.items - c.args.cycles) c.self.inside.waiting.items =
+    let left : c.truncate.new.self.items
+    ≡ take (length c.self.inside.waiting.items - c.args.cycles) c.self.inside.waiting.items =
     rw long at c.truncate.ensures.items in
-    ap (λ (x : List _). open_proof c.self.inside.known.items c.self.inside.current c.self.inside.base c.self.inside.list.items x) left
+    ap (λ (x : List _). open_proof c.self.inside.known.items c.self.inside.current c.self.inside.base
+    c.self.inside.list.items x) left
     ∙ cut.1

@@ -11,8 +11,10 @@ returns-clause-ok g c =
     let judged = c.judge_proof-judgement in
     let f = function_of c.args.rules.now in
     IfOk-weaker c.reply_by.result (IsReplyBy read.result judged.result) _
-    (reply_told f c.limit.result c.limit.ensures read.new.into.items c.deref.result.now c.deref.ensures.value read.result judged.result
-    (c.refusals_stand.ensures f) judged.ensures.judged read.ensures.within read.ensures.full (g.H.Shelf.holds c.args.shelf.now c.args.name.now)
+    (reply_told f c.limit.result c.limit.ensures read.new.into.items c.deref.result.now c.deref.ensures.value
+    read.result judged.result
+    (c.refusals_stand.ensures f) judged.ensures.judged read.ensures.within read.ensures.full
+    (g.H.Shelf.holds c.args.shelf.now c.args.name.now)
     (when_ok read.result read.ensures.ok) read.ensures.front read.ensures.too_long) c.reply_by.ensures.ok
 
 -- the reply is that of the bytes that the shelf's calls gave
@@ -22,6 +24,8 @@ returns-clause-given g c =
     let judged = c.judge_proof-judgement in
     let f = function_of c.args.rules.now in
     IfOk-weaker c.reply_by.result (IsReplyBy read.result judged.result) _
-    (reply_given f c.limit.result c.limit.ensures read.new.into.items c.deref.result.now c.deref.ensures.value read.result judged.result
-    (c.refusals_stand.ensures f) judged.ensures.judged read.ensures.within read.ensures.full (g.H.Shelf.reads read.new.shelf).bytes
+    (reply_given f c.limit.result c.limit.ensures read.new.into.items c.deref.result.now c.deref.ensures.value
+    read.result judged.result
+    (c.refusals_stand.ensures f) judged.ensures.judged read.ensures.within read.ensures.full
+    (g.H.Shelf.reads read.new.shelf).bytes
     (when_ok read.result read.ensures.given) read.ensures.given_front read.ensures.given_more) c.reply_by.ensures.ok

@@ -22,7 +22,8 @@ use Rattle.ot_commands.proofs.least.ShorteningFunctionCommand.reply.Goals as goa
 -- a reply that tells the answer of the search is the reply to the function
 answer_told :
     (f : Function) (cert : Bool) (r : Reply) (short named : Short) → IsShort f most_questions short → IsTrueOf f short
-    → IsShortWithin (limit_of files.Certificate) short → short ≡ named → TellsShort f cert named r → IsReplyToLeast f cert r
+    → IsShortWithin (limit_of files.Certificate) short → short ≡ named → TellsShort f cert named r
+    → IsReplyToLeast f cert r
 answer_told f cert r short named decides holds within is told =
     (short, decides, holds, within, subst (λ (s : Short). TellsShort f cert s r) (sym is) told)
 
@@ -59,18 +60,20 @@ returns-then-self c =
 
 pub counter_of-requires-clause-declared : goal.counter_of-requires-clause-declared
 counter_of-requires-clause-declared c =
-    (subst (λ (s : Short). IsTrueOf (function_of c.args.rules.now) s) c.in-Least.is c.in_ok-shortest.ensures.holds).listed
+    (subst (λ (s : Short). IsTrueOf (function_of c.args.rules.now) s) c.in-Least.is
+    c.in_ok-shortest.ensures.holds).listed
 
 pub counter_of-requires-clause-leads : goal.counter_of-requires-clause-leads
 counter_of-requires-clause-leads c =
     let f = function_of c.args.rules.now in
-    subst (λ (l : List Answer). AreAnswersTo (plan_of f c.in-Least.ob) l (Fails c.in-Least.why)) (sym c.deref.ensures.value)
-    (subst (λ (s : Short). IsTrueOf f s) c.in-Least.is c.in_ok-shortest.ensures.holds).way
+    subst (λ (l : List Answer). AreAnswersTo (plan_of f c.in-Least.ob) l (Fails c.in-Least.why))
+    (sym c.deref.ensures.value) (subst (λ (s : Short). IsTrueOf f s) c.in-Least.is c.in_ok-shortest.ensures.holds).way
 
 pub counter_of-requires-clause-possible : goal.counter_of-requires-clause-possible
 counter_of-requires-clause-possible c =
     subst (λ (l : List Answer). IsPossible (answered_by l)) (sym c.deref.ensures.value)
-    (subst (λ (s : Short). IsTrueOf (function_of c.args.rules.now) s) c.in-Least.is c.in_ok-shortest.ensures.holds).possible
+    (subst (λ (s : Short). IsTrueOf (function_of c.args.rules.now) s) c.in-Least.is
+    c.in_ok-shortest.ensures.holds).possible
 
 -- and otherwise a counterexample
 pub returns-in_ok-counter-in-Least : goal.returns-in_ok-counter-in-Least
@@ -85,7 +88,7 @@ returns-in_ok-counter-in-Least c =
     c.in-Least.cells c.in-Least.bytes.items (Shortest counter c.in-Least.cells))
     (sym c.if-self.false) (
       counter,
-      subst (λ (l : List Answer). IsCounter f c.in-Least.ob (answered_by l) c.in-Least.why counter) c.deref.ensures.value
-          c.in_ok-counter-in-Least.ensures,
+      subst (λ (l : List Answer). IsCounter f c.in-Least.ob (answered_by l) c.in-Least.why counter)
+          c.deref.ensures.value c.in_ok-counter-in-Least.ensures,
       refl,
     ))

@@ -29,7 +29,7 @@ crossings-requires c =
     let usable : IsUsable f (reach n) c.in-Some.entry.op =
     All-at (λ e. IsUsable f (reach n) e.op) s.server.log client.received c.in-Some.entry s.kept.server.log next in
     rw (c.as_slice-pending.ensures, c.at.ensures)
-    (CanBeCarried-near c.enabled_operations_are_near.ensures.wider f (reach (n + client.received)) c.in-Some.entry.op client.pending
-    (omega (arith, kept.short, kept.few)) (omega (arith, kept.short, kept.few, s.kept.server.few, more))
-    (IsUsable-wider c.enabled_operations_are_near.ensures.wider f (reach n) (reach (n + client.received)) c.in-Some.entry.op (omega arith) usable)
-    kept.pending)
+    (CanBeCarried-near c.enabled_operations_are_near.ensures.wider f (reach (n + client.received)) c.in-Some.entry.op
+    client.pending (omega (arith, kept.short, kept.few)) (omega (arith, kept.short, kept.few, s.kept.server.few, more))
+    (IsUsable-wider c.enabled_operations_are_near.ensures.wider f (reach n) (reach (n + client.received))
+    c.in-Some.entry.op (omega arith) usable) kept.pending)

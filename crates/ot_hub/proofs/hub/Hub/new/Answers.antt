@@ -6,7 +6,8 @@ use Rattle.ot_hub.proofs.hub.Hub.new.Goals as goal
 pub invariant_of-result-clause-kept : goal.invariant_of-result-clause-kept
 invariant_of-result-clause-kept c =
     rw (c.in_ok-fresh_server.ensures, c.in_ok-fresh_clients.ensures)
-    (IsHubKept-begun c.args.doc.now c.args.clients (function_of c.in_ok-try_clone.field-0) c.requires.clients.1 c.requires.cells)
+    (IsHubKept-begun c.args.doc.now c.args.clients (function_of c.in_ok-try_clone.field-0)
+    c.requires.clients.1 c.requires.cells)
 
 pub invariant_of-result-clause-followed : goal.invariant_of-result-clause-followed
 invariant_of-result-clause-followed c =
@@ -14,7 +15,8 @@ invariant_of-result-clause-followed c =
 
 pub invariant_of-result-clause-counted : goal.invariant_of-result-clause-counted
 invariant_of-result-clause-counted c =
-    rw (c.in_ok-fresh_server.ensures, c.in_ok-fresh_clients.ensures) (AreCountedEdits-begun c.args.doc.now c.args.clients)
+    rw (c.in_ok-fresh_server.ensures, c.in_ok-fresh_clients.ensures)
+    (AreCountedEdits-begun c.args.doc.now c.args.clients)
 
 pub invariant_of-result-clause-in_step : goal.invariant_of-result-clause-in_step
 invariant_of-result-clause-in_step c tp1 chars =
@@ -22,4 +24,9 @@ invariant_of-result-clause-in_step c tp1 chars =
     (∣ AreInStep-begun_hub c.args.doc.now c.args.clients (function_of c.in_ok-try_clone.field-0) ∣₁)
 
 pub returns : goal.returns
-returns c = rw (c.in_ok-try_clone.ensures, c.in_ok-try_clone-2.ensures, c.in_ok-fresh_server.ensures, c.in_ok-fresh_clients.ensures) refl
+returns c = rw (
+  c.in_ok-try_clone.ensures,
+  c.in_ok-try_clone-2.ensures,
+  c.in_ok-fresh_server.ensures,
+  c.in_ok-fresh_clients.ensures,
+) refl

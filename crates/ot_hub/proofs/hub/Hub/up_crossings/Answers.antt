@@ -23,5 +23,5 @@ crossings-requires c =
     let usable : IsUsable f most_hub_cells c.in-Some.message.op =
     All-at (λ b. IsUsable f most_hub_cells b.op) (client_at all place).messages 0 c.in-Some.message
     (one-kept f s.made s.server all s.kept place inside).messages (sym c.in-Some.ensures) in
-    rw c.as_slice-ahead.ensures (CanBeCarried-ahead c.enabled_operations_are_near.ensures.wider f s.server s.kept.server place c.index.result.now
-    c.index.ensures c.in-Some.message.op usable)
+    rw c.as_slice-ahead.ensures (CanBeCarried-ahead c.enabled_operations_are_near.ensures.wider f s.server s.kept.server
+    place c.index.result.now c.index.ensures c.in-Some.message.op usable)

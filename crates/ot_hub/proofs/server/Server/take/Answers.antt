@@ -6,7 +6,8 @@ use Rattle.ot_hub.specs.declared.server.Server.{Server}
 use Rattle.ot_hub.specs.Steps.{Step, ahead_of, server_step, HasStepped}
 use Rattle.ot_hub.specs.Usable.{CanBeCarried}
 use Rattle.ot_hub.proofs.Kept.{CanBeCarried-ahead}
-use Rattle.ot_hub.proofs.Stepping.{HasStepped-lacked, carried_some, server_step-none, server_step-refused, server_step-leads, server_step-done}
+use Rattle.ot_hub.proofs.Stepping.{HasStepped-lacked, carried_some, server_step-none, server_step-refused}
+use Rattle.ot_hub.proofs.Stepping.{server_step-leads, server_step-done}
 use Rattle.ot_hub.proofs.server.Server.take.Goals.{After-as_slice-ahead, After-carry_list}
 use Rattle.ot_hub.proofs.server.Server.take.Goals as goal
 
@@ -15,9 +16,11 @@ there : (c : After-as_slice-ahead) → ahead_of c.args.self.now c.args.client �
 there c = ap (λ found. unwrap_or found []) c.index.ensures ∙ sym c.as_slice-ahead.ensures
 
 -- the message can be carried over it
-can_be_carried : (c : After-as_slice-ahead) → CanBeCarried (function_of c.args.rules.now) c.args.message.now.op c.as_slice-ahead.result.now
+can_be_carried : (c : After-as_slice-ahead)
+    → CanBeCarried (function_of c.args.rules.now) c.args.message.now.op c.as_slice-ahead.result.now
 can_be_carried c =
-    rw c.as_slice-ahead.ensures (CanBeCarried-ahead c.enabled_operations_are_near.ensures.wider (function_of c.args.rules.now) c.args.self.now
+    rw c.as_slice-ahead.ensures
+    (CanBeCarried-ahead c.enabled_operations_are_near.ensures.wider (function_of c.args.rules.now) c.args.self.now
     c.requires.kept (c.args.client - 1) c.index.result.now c.index.ensures c.args.message.now.op c.requires.usable)
 
 -- what it becomes is enabled
@@ -36,17 +39,17 @@ carry_list-requires-clause-carried c = carried_some _ c.in-Some.form c.in-Some.e
 -- the message can't be carried
 pub returns-in_default : goal.returns-in_default
 returns-in_default c = (
-  server_step-none (function_of c.args.rules.now) c.args.client c.args.message.now c.args.self.now c.as_slice-ahead.result.now
-      (there (goal.at.returns-in_default c).After-as_slice-ahead) c.in_default.ensures,
+  server_step-none (function_of c.args.rules.now) c.args.client c.args.message.now c.args.self.now
+      c.as_slice-ahead.result.now (there (goal.at.returns-in_default c).After-as_slice-ahead) c.in_default.ensures,
   refl,
 )
 
 -- what it becomes is not enabled
 pub returns-then-not-enabled : goal.returns-then-not-enabled
 returns-then-not-enabled c = (
-  server_step-refused (function_of c.args.rules.now) c.args.client c.args.message.now c.args.self.now c.as_slice-ahead.result.now
-      (there (goal.at.returns-then-not-enabled c).After-as_slice-ahead) c.in-Some.form c.in-Some.ensures
-      (ap (is_enabled c.in-Some.form) (sym c.len.ensures) ∙ sym c.if-not-enabled.ensures.test),
+  server_step-refused (function_of c.args.rules.now) c.args.client c.args.message.now c.args.self.now
+      c.as_slice-ahead.result.now (there (goal.at.returns-then-not-enabled c).After-as_slice-ahead) c.in-Some.form
+      c.in-Some.ensures (ap (is_enabled c.in-Some.form) (sym c.len.ensures) ∙ sym c.if-not-enabled.ensures.test),
   refl,
 )
 
@@ -56,7 +59,8 @@ returns-in_err-own c =
     let server : Server = c.args.self.now in
     let step : Step Server = server_step (function_of c.args.rules.now) c.args.client c.args.message.now server in
     HasStepped-lacked server server step c.from_residual.result c.from_residual.ensures.1
-    (server_step-leads (function_of c.args.rules.now) c.args.client c.args.message.now server c.as_slice-ahead.result.now
+    (server_step-leads (function_of c.args.rules.now) c.args.client c.args.message.now server
+    c.as_slice-ahead.result.now
     (there at.After-as_slice-ahead) c.in-Some.form c.in-Some.ensures (enabled at.After-carry_list)) refl
 
 pub take_carried-requires-clause-enabled : goal.take_carried-requires-clause-enabled
@@ -69,6 +73,6 @@ returns c =
     let at = goal.at.returns c in
     let server : Server = c.args.self.now in
     subst (λ (step : Step Server). HasStepped server c.take_carried.new.self step c.take_carried.result)
-    (sym (server_step-done (function_of c.args.rules.now) c.args.client c.args.message.now server c.as_slice-ahead.result.now
-    (there at.After-as_slice-ahead) c.in-Some.form c.in_ok-own.own c.in-Some.ensures c.in_ok-own.ensures (enabled at.After-carry_list)))
-    c.take_carried.ensures
+    (sym (server_step-done (function_of c.args.rules.now) c.args.client c.args.message.now server
+    c.as_slice-ahead.result.now (there at.After-as_slice-ahead) c.in-Some.form c.in_ok-own.own c.in-Some.ensures
+    c.in_ok-own.ensures (enabled at.After-carry_list))) c.take_carried.ensures

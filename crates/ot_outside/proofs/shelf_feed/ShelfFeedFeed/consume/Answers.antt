@@ -7,7 +7,8 @@ use Rattle.ot_outside.proofs.shelf_feed.ShelfFeedFeed.consume.Goals as goal
 
 pub returns-clause-hand : goal.returns-clause-hand
 returns-clause-hand g c =
-    hand_behind c.args.self.now.room c.args.count c.args.self.now.at c.args.self.now.filled c.args.self.now.piece c.requires
+    hand_behind c.args.self.now.room c.args.count c.args.self.now.at c.args.self.now.filled
+    c.args.self.now.piece c.requires
 
 pub returns-clause-left : goal.returns-clause-left
 returns-clause-left g c =
@@ -24,8 +25,8 @@ returns-clause-gave g c =
     let span : (c.args.self.now.at + c.args.count) - c.args.self.now.at ≡ c.args.count = omega arith in
     rw (noted, was, span)
     (ap (λ l. c.args.self.now.given.bytes ++ l)
-    (sym (slice_of_hand c.args.self.now.room c.args.count c.args.self.now.at c.args.self.now.filled c.args.self.now.piece
-    c.args.self.now.ordered c.args.self.now.within c.requires)))
+    (sym (slice_of_hand c.args.self.now.room c.args.count c.args.self.now.at c.args.self.now.filled
+    c.args.self.now.piece c.args.self.now.ordered c.args.self.now.within c.requires)))
 
 pub returns-clause-keeps : goal.returns-clause-keeps
 returns-clause-keeps g c =
@@ -33,7 +34,8 @@ returns-clause-keeps g c =
     kept_on before c.args.self.now _ kept (unchanged_shelf _ _ _ (shelf_of c.args.self.now)) (same_reading _)
     (λ all.
     rw (returns-clause-gave g c)
-    (read_taken c.args.self.now.room c.args.count c.args.self.now.at c.args.self.now.filled c.args.self.now.piece _ _ c.requires all))
-    (limit_taken c.args.self.now.given.bytes _ (unread_of c.args.self.now) c.args.count c.args.self.now.room (returns-clause-gave g c) c.requires)
-    (beyond_taken c.args.self.now.room c.args.count c.args.self.now.at c.args.self.now.filled c.args.self.now.piece
-    (g.H.Shelf.left c.args.self.now.shelf.now) c.requires)
+    (read_taken c.args.self.now.room c.args.count c.args.self.now.at c.args.self.now.filled
+    c.args.self.now.piece _ _ c.requires all))
+    (limit_taken c.args.self.now.given.bytes _ (unread_of c.args.self.now) c.args.count c.args.self.now.room
+    (returns-clause-gave g c) c.requires) (beyond_taken c.args.self.now.room c.args.count c.args.self.now.at
+    c.args.self.now.filled c.args.self.now.piece (g.H.Shelf.left c.args.self.now.shelf.now) c.requires)

@@ -3,7 +3,10 @@ use Rattle.ot_outside.specs.Reads.{Reads}
 use Rattle.ot_outside.proofs.Keeping.{kept_on}
 use Rattle.ot_outside.proofs.Pieces.{beyond_given, limit_given, next_given, no_room, at_end, read_given}
 use Rattle.ot_outside.proofs.shelf_feed.ShelfFeedFeed.next.Goals as goal
-use Rattle.ot_outside.proofs.shelf_feed.ShelfFeedFeed.next.Goals.{then-self-eq0-via-then-self-eq0, then-self-eq0-via-else-self-eq0+in_ok-fill+then-not-branch}
+use Rattle.ot_outside.proofs.shelf_feed.ShelfFeedFeed.next.Goals.{then-self-eq0-via-then-self-eq0}
+use Rattle.ot_outside.proofs.shelf_feed.ShelfFeedFeed.next.Goals.{
+  then-self-eq0-via-else-self-eq0+in_ok-fill+then-not-branch,
+}
 
 pub returns-then-self-eq0-clause-ok : goal.returns-then-self-eq0-clause-ok
 returns-then-self-eq0-clause-ok g c =
@@ -32,6 +35,8 @@ returns-clause-keeps g c =
     kept_on before c.args.self.now _ kept c.in_ok-fill.ensures.unchanged c.in_ok-fill.ensures.reading
     (λ all.
     rw (ap (λ (r : Reads). r.bytes) c.note.ensures)
-    (read_given c.fill.new.self.at c.fill.new.self.filled c.fill.new.self.piece _ _ below within (c.in_ok-fill.ensures.read all)))
-    (limit_given _ c.fill.new.self.given.bytes _ _ _ _ (ap (λ (r : Reads). r.bytes) c.note.ensures) c.in_ok-fill.ensures.gave c.in_ok-fill.ensures.room some)
+    (read_given c.fill.new.self.at c.fill.new.self.filled c.fill.new.self.piece _ _ below within
+    (c.in_ok-fill.ensures.read all)))
+    (limit_given _ c.fill.new.self.given.bytes _ _ _ _ (ap (λ (r : Reads). r.bytes) c.note.ensures)
+    c.in_ok-fill.ensures.gave c.in_ok-fill.ensures.room some)
     (rw (← c.in_ok-fill.ensures.room, ← c.in_ok-fill.ensures.file_left) (beyond_given _ _ _ _ _ some below within))

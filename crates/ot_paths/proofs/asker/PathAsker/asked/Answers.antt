@@ -22,4 +22,5 @@ pub returns-in-Not : goal.returns-in-Not
 returns-in-Not c = absurd (no_question _ _ c.in-Not.is refl c.requires.question)
 
 pub returns-in-Le : goal.returns-in-Le
-returns-in-Le c = question_begins _ _ _ _ _ _ _ _ (ap form_tree c.in-Le.is) c.literal.ensures c.requires.question c.requires.node
+returns-in-Le c =
+    question_begins _ _ _ _ _ _ _ _ (ap form_tree c.in-Le.is) c.literal.ensures c.requires.question c.requires.node

@@ -25,4 +25,5 @@ returns c =
     (c.in_ok-write_position.ensures
     ∙ ap (λ (l : List ℕ). l ++ (32 ∷ [] ++ signed_decimal at ++ 32 ∷ [])) c.in_ok-write_word.ensures))
     ∙ (parts_joined c.args.out.now.items word (signed_decimal at) ch site
-    ∙ ap (λ (a : ℤ). c.args.out.now.items ++ (word ++ 32 ∷ [] ++ signed_decimal a ++ 32 ∷ [] ++ ch ++ 32 ∷ [] ++ site)) same))
+    ∙ ap (λ (a : ℤ). c.args.out.now.items ++ (word ++ 32 ∷ [] ++ signed_decimal a ++ 32 ∷ [] ++ ch ++ 32 ∷ [] ++ site))
+    same))

@@ -11,5 +11,6 @@ returns-in_ok-format-in-Some c =
     let out = c.args.out.now.items in
     IfOk-equal c.append_text.result _ _ _ c.append_text.ensures
     (ap (λ (l : List ℕ). out ++ l)
-    (c.in_ok-format-in-Some.ensures.ok ∙ line_joined (codes "differ ") (decimal c.in-Some.one) (decimal c.in-Some.other) _ refl
+    (c.in_ok-format-in-Some.ensures.ok
+    ∙ line_joined (codes "differ ") (decimal c.in-Some.one) (decimal c.in-Some.other) _ refl
     ∙ ap (λ (pair : Option (ℕ × ℕ)). last_line pair) (sym c.in-Some.is)))

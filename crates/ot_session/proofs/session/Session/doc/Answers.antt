@@ -11,15 +11,18 @@ pub returns-clause-state : goal.returns-clause-state
 returns-clause-state c =
     let s = c.args.self.now in
     let t : ℕ = c.args.site in
-    let inside : t - 1 < length s.sites.items = omega (arith, c.requires.low, c.requires.high, length-map s.sites.items view_site) in
+    let inside : t - 1 < length s.sites.items =
+    omega (arith, c.requires.low, c.requires.high, length-map s.sites.items view_site) in
     ∥∥₁_elim s.kept (Coded-set document_code _ _)
     (λ k.
     k.sound.documents t c.requires
-    ∙ ap (λ (d : List Cell). Some d) (ap site_document (viewed s.sites.items (t - 1) c.index.result.now inside c.index.ensures)))
+    ∙ ap (λ (d : List Cell). Some d)
+    (ap site_document (viewed s.sites.items (t - 1) c.index.result.now inside c.index.ensures)))
 
 pub returns-clause-held : goal.returns-clause-held
 returns-clause-held c =
     let s = c.args.self.now in
     let t : ℕ = c.args.site in
-    let inside : t - 1 < length s.sites.items = omega (arith, c.requires.low, c.requires.high, length-map s.sites.items view_site) in
+    let inside : t - 1 < length s.sites.items =
+    omega (arith, c.requires.low, c.requires.high, length-map s.sites.items view_site) in
     sym (ap site_document (viewed s.sites.items (t - 1) c.index.result.now inside c.index.ensures))

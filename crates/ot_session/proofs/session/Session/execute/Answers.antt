@@ -1,4 +1,5 @@
-use Rattle.std.proofs.Common.{◌≡◌, ◌<◌, ◌-◌, ◌∷◌, [], ℕ, List, length, length-append, map, Vec, Global, Option, Some, None, refl, sym, ap, ◌∙◌, subst, reverse, arith}
+use Rattle.std.proofs.Common.{◌≡◌, ◌<◌, ◌-◌, ◌∷◌, [], ℕ, List, length, length-append, map, Vec, Global, Option, Some}
+use Rattle.std.proofs.Common.{None, refl, sym, ap, ◌∙◌, subst, reverse, arith}
 use Rattle.std.specs.Prelude.{slice_get, IfSome}
 use Rattle.std.specs.Option.{option_map}
 use Rattle.std.specs.Coded.{Coded-set, coded_bool, coded_ℕ}
@@ -25,8 +26,8 @@ use Rattle.ot_session.specs.Sites.{SiteView, view_site, site_document, data_of, 
 use Rattle.ot_session.specs.Past.{is_marked, past_of}
 use Rattle.ot_session.specs.Views.{View, HasMade, closed_session, view_of}
 use Rattle.ot_session.proofs.Lists.{AllByRecursion-at}
-use Rattle.ot_session.proofs.Making.{all-marked, extends-executed, Makes-executed, known-executed, held-executed, may_make, makes, IsKeptSession-executed}
-use Rattle.ot_session.proofs.Making.{counts-executed, SiteKeepsForms-executed}
+use Rattle.ot_session.proofs.Making.{all-marked, extends-executed, Makes-executed, known-executed, held-executed}
+use Rattle.ot_session.proofs.Making.{may_make, makes, IsKeptSession-executed, counts-executed, SiteKeepsForms-executed}
 use Rattle.ot_session.proofs.session.Session.execute.Goals.{In-Err}
 use Rattle.ot_session.proofs.session.Session.execute.Goals as goal
 
@@ -41,15 +42,18 @@ same_views c = c.in-Err.ensures.sites ∙ ap (λ (ss : List Site). map view_site
 
 same_count : (c : In-Err) → length c.execute_at.new.sites ≡ length c.args.self.now.sites.items
 same_count c =
-    sym (length-map c.execute_at.new.sites view_site) ∙ ap length (same_views c) ∙ length-map c.args.self.now.sites.items view_site
+    sym (length-map c.execute_at.new.sites view_site) ∙ ap length (same_views c)
+    ∙ length-map c.args.self.now.sites.items view_site
 
 sites_back : (c : In-Err) → (with_items c.args.self.now.sites c.execute_at.new.sites).items ≡ c.execute_at.new.sites
-sites_back c = with_items_is c.args.self.now.sites c.execute_at.new.sites (same_count c ∙ sym c.args.self.now.sites.ok.0)
+sites_back c =
+    with_items_is c.args.self.now.sites c.execute_at.new.sites (same_count c ∙ sym c.args.self.now.sites.ok.0)
 
 -- where one of the sites executed the operation, they are as many
 sites_set :
     (mode : Mode) (o : Op) (i : ℕ) (made new_made : List Made) (sites : Vec Site Global) (new : List Site)
-    → ExecutesAt mode o i made new_made sites.items new → (length new ≡ length sites.items) × ((with_items sites new).items ≡ new)
+    → ExecutesAt mode o i made new_made sites.items new
+    → (length new ≡ length sites.items) × ((with_items sites new).items ≡ new)
 sites_set mode o i made new_made sites new step =
     let count : length new ≡ length sites.items = ap length step.is ∙ length-set sites.items i step.after in
     (count, with_items_is sites new (count ∙ sym sites.ok.0))
@@ -100,7 +104,8 @@ invariant_of-self-in-Err c =
       within = s.within;
       kept = ∥∥₁_map s.kept (λ k. record {
         sound = rw (items, views, c.in-Err.ensures.made) k.sound;
-        sorted = rw (items, c.in-Err.ensures.made) (c.in-Err.ensures.sorted (length s.made.items) (rw c.deref_mut.ensures.value k.sorted));
+        sorted = rw (items, c.in-Err.ensures.made)
+            (c.in-Err.ensures.sorted (length s.made.items) (rw c.deref_mut.ensures.value k.sorted));
       });
       forms = λ is. absurd (false≢true is);
       counts = λ is. absurd (false≢true is);
@@ -119,7 +124,8 @@ invariant_of-self c =
     let new_sites : List Site = c.execute_at.new.sites in
     let step : ExecutesAt f.head.mode o (t - 1) made new_made sites new_sites =
     subst (λ (ss : List Site). ExecutesAt f.head.mode o (t - 1) made new_made ss new_sites) c.deref_mut.ensures.value
-    (subst (λ (h : Head). ExecutesAt h.mode o (t - 1) made new_made c.deref_mut.result.now new_sites) c.head-mode.ensures.head c.in-Ok.ensures.ok) in
+    (subst (λ (h : Head). ExecutesAt h.mode o (t - 1) made new_made c.deref_mut.result.now new_sites)
+    c.head-mode.ensures.head c.in-Ok.ensures.ok) in
     let at : IsSite (length sites) t = subst (λ (n : ℕ). IsSite n t) (length-map sites view_site) c.requires.may.site in
     let set = sites_set f.head.mode o (t - 1) made new_made s.sites new_sites step in
     let items : (with_items s.sites new_sites).items ≡ new_sites = set.1 in
@@ -132,7 +138,12 @@ invariant_of-self c =
     let law : (old new : SessionData) → IsSound f old → MayMake f old t o → Makes f old new t o → IsSound f new =
     λ old new. c.steps_keep_sessions_sound.ensures.made f old new t o in
     record {
-      few = omega (arith, few, ap length step.made ∙ length-append made (record { op = o; known = step.before.integrated } ∷ []));
+      few = omega (
+        arith,
+        few,
+        ap length step.made
+            ∙ length-append made (record { op = o; known = step.before.integrated } ∷ []),
+      );
       small = s.small;
       most = rw items (omega (arith, set.0, s.most));
       within = s.within;
@@ -145,14 +156,15 @@ invariant_of-self c =
           (λ n l. c.making_more_changes_nothing.ensures.forms f past new_past n l extends)
           (λ l. c.counted_forms_need_not_be_sought.ensures.counted new_past l
           (c.open_members_may_be_taken_out.ensures.order f new_past s.first
-          (IsKeptSession-executed f s.first t o made new_made sites new_sites at step few own declared k law).sound.past))
-          (c.steps_count_what_they_seek.ensures.made f (data_of s.first made (map view_site sites)) (data_of s.first new_made (map view_site new_sites)) t o
-          k.sound (may_make f s.first t o made new_made sites new_sites at step own declared)
-          (makes f s.first t o made new_made sites new_sites at step few own declared k law))
+          (IsKeptSession-executed f s.first t o made new_made sites new_sites at step few own
+          declared k law).sound.past))
+          (c.steps_count_what_they_seek.ensures.made f (data_of s.first made (map view_site sites)) (data_of s.first
+          new_made (map view_site new_sites)) t o k.sound (may_make f s.first t o made new_made sites new_sites at step
+          own declared) (makes f s.first t o made new_made sites new_sites at step few own declared k law))
           (λ l. c.making_more_changes_nothing.ensures.counted past new_past l extends)
           forms));
-      counts = λ is. subst (λ (ss : List Site). s.counted ≡ all_counted (data_of s.first new_made (map view_site ss))) (sym items)
-          (∥∥₁_elim s.kept (Coded-set coded_ℕ _ _) (λ k.
+      counts = λ is. subst (λ (ss : List Site). s.counted ≡ all_counted (data_of s.first new_made (map view_site ss)))
+          (sym items) (∥∥₁_elim s.kept (Coded-set coded_ℕ _ _) (λ k.
           counts-executed f s.first t o made new_made sites new_sites at step few own declared k law
           (λ old new. c.steps_count_what_they_seek.ensures.all_made f old new t o) s.counted (s.counts is)));
     }
@@ -170,7 +182,8 @@ returns-in-Ok-clause-made c =
     let new_sites : List Site = c.execute_at.new.sites in
     let step : ExecutesAt f.head.mode o (t - 1) made new_made sites new_sites =
     subst (λ (ss : List Site). ExecutesAt f.head.mode o (t - 1) made new_made ss new_sites) c.deref_mut.ensures.value
-    (subst (λ (h : Head). ExecutesAt h.mode o (t - 1) made new_made c.deref_mut.result.now new_sites) c.head-mode.ensures.head c.in-Ok.ensures.ok) in
+    (subst (λ (h : Head). ExecutesAt h.mode o (t - 1) made new_made c.deref_mut.result.now new_sites)
+    c.head-mode.ensures.head c.in-Ok.ensures.ok) in
     let at : IsSite (length sites) t = subst (λ (n : ℕ). IsSite n t) (length-map sites view_site) c.requires.may.site in
     let items : new_sites ≡ (with_items s.sites new_sites).items =
     sym (sites_set f.head.mode o (t - 1) made new_made s.sites new_sites step).1 in
@@ -178,10 +191,23 @@ returns-in-Ok-clause-made c =
     λ k. AllByRecursion-at (IsSorted (length made)) sites (t - 1) step.before k.sorted step.was in
     let marks : (x : ℕ) → is_marked step.before.integrated x ≡ has (reverse step.before.seen.items) x =
     λ x. ∥∥₁_elim s.kept (Coded-set coded_bool _ _) (λ k. (sorted k).marked.marks x) in
-    let before : View = record { function = f; first = s.first; made = made; sites = map view_site sites; counted = s.counted; is_open = s.is_open } in
+    let before : View = record {
+      function = f;
+      first = s.first;
+      made = made;
+      sites = map view_site sites;
+      counted = s.counted;
+      is_open = s.is_open;
+    } in
     subst (λ (ss : List Site).
-    HasMade before (record { function = f; first = s.first; made = new_made; sites = map view_site ss; counted = s.counted; is_open = s.is_open }) t o
-    c.in-Ok.number)
+    HasMade before (record {
+      function = f;
+      first = s.first;
+      made = new_made;
+      sites = map view_site ss;
+      counted = s.counted;
+      is_open = s.is_open;
+    }) t o c.in-Ok.number)
     items
     (record {
       number = c.in-Ok.ensures.number;

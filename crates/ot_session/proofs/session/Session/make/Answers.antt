@@ -40,8 +40,8 @@ execute-requires-clause-few c = c.in_ok-test_make.ensures.ok.1
 -- it passes them all
 pub returns : goal.returns
 returns c =
-    let k = executed-answers (view_of c.args.self.now) (view_of c.execute.new.self) c.args.site c.args.op c.execute.result
-    c.in_ok-test_make.ensures.ok.0 c.in_ok-test_make.ensures.ok.1 c.execute.ensures.lacked in
+    let k = executed-answers (view_of c.args.self.now) (view_of c.execute.new.self) c.args.site c.args.op
+    c.execute.result c.in_ok-test_make.ensures.ok.0 c.in_ok-test_make.ensures.ok.1 c.execute.ensures.lacked in
     record {
       made = c.execute.ensures.made;
       passed = on_ok _ c.execute.result c.in_ok-test_make.ensures.ok;

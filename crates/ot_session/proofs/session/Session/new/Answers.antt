@@ -13,13 +13,17 @@ invariant_of-result c = record {
   small = omega (arith, ap length c.in_ok-try_clone-2.ensures, c.requires.cells);
   most = omega (arith, c.in_ok-fresh_sites.ensures.count, c.requires.sites);
   within = omega arith;
-  forms = λ _. ∣ SiteKeepsForms-fresh c.args.doc.now (function_of c.in_ok-try_clone.field-0) (past_of c.new.result.items)
+  forms =
+      λ _. ∣ SiteKeepsForms-fresh c.args.doc.now (function_of c.in_ok-try_clone.field-0) (past_of c.new.result.items)
       (c.forms_are_sought_before_they_are_made.ensures.counted_none (past_of c.new.result.items))
       c.in_ok-fresh_sites.field-0.items c.in_ok-fresh_sites.ensures.fresh ∣₁;
-  counts = λ _. sym (all_counted-fresh c.args.doc.now c.in_ok-try_clone-2.field-0 c.new.result.items c.in_ok-fresh_sites.field-0.items
+  counts = λ _. sym (all_counted-fresh c.args.doc.now c.in_ok-try_clone-2.field-0 c.new.result.items
+      c.in_ok-fresh_sites.field-0.items
       c.forms_are_sought_before_they_are_made.ensures.counted_none c.in_ok-fresh_sites.ensures.fresh);
-  kept = ∣ IsKeptSession-fresh c.args.doc.now (function_of c.in_ok-try_clone.field-0) c.in_ok-try_clone-2.field-0 c.new.result.items
-      c.in_ok-fresh_sites.field-0.items (λ s. c.steps_keep_sessions_sound.ensures.begun (function_of c.in_ok-try_clone.field-0) c.args.doc.now s)
+  kept = ∣ IsKeptSession-fresh c.args.doc.now (function_of c.in_ok-try_clone.field-0)
+      c.in_ok-try_clone-2.field-0 c.new.result.items
+      c.in_ok-fresh_sites.field-0.items (λ s.
+      c.steps_keep_sessions_sound.ensures.begun (function_of c.in_ok-try_clone.field-0) c.args.doc.now s)
       c.in_ok-try_clone-2.ensures c.new.ensures.items c.in_ok-fresh_sites.ensures.fresh ∣₁;
 }
 

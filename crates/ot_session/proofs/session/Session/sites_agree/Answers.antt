@@ -19,5 +19,5 @@ returns c one two differ s t is_s is_t same =
     (λ k.
     ap (λ (d : List Cell). Some d)
     ((c.both_properties_give_one_document.ensures
-    (function_of session.rules) (data_of session.first session.made.items (map view_site session.sites.items)) one two differ k.sound).one_document
-    s t is_s is_t same)))
+    (function_of session.rules) (data_of session.first session.made.items (map view_site session.sites.items)) one two
+    differ k.sound).one_document s t is_s is_t same)))

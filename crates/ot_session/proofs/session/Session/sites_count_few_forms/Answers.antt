@@ -11,4 +11,5 @@ returns c s site =
     let session = c.args.self.now in
     ∥∥₁_elim session.kept le_prop (λ k.
     c.sites_count_no_more_than_the_bound.ensures.whole
-    (function_of session.rules) (data_of session.first session.made.items (map view_site session.sites.items)) s k.sound site)
+    (function_of session.rules) (data_of session.first session.made.items (map view_site session.sites.items)) s k.sound
+    site)

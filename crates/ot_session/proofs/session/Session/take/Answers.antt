@@ -7,7 +7,9 @@ use Rattle.ot_causal.specs.Sessions.{all_counted}
 use Rattle.ot_session.specs.declared.site.Site.{Site}
 use Rattle.ot_session.specs.Past.{past_of}
 use Rattle.ot_session.specs.Sites.{view_site, data_of}
-use Rattle.ot_session.proofs.AfterTake.{no_site-not_stuck, no_site-not_spent, no_op-not_stuck, no_op-not_spent, can-take, counted-before, items, few-sites, taken, forms-taken, kept-taken, counts-taken, never-stuck, never-spent}
+use Rattle.ot_session.proofs.AfterTake.{no_site-not_stuck, no_site-not_spent, no_op-not_stuck, no_op-not_spent}
+use Rattle.ot_session.proofs.AfterTake.{can-take, counted-before, items, few-sites, taken, forms-taken, kept-taken}
+use Rattle.ot_session.proofs.AfterTake.{counts-taken, never-stuck, never-spent}
 use Rattle.ot_session.proofs.session.Session.take.Goals as goal
 
 pub take_at-taken-requires-clause-can : goal.take_at-taken-requires-clause-can
@@ -34,36 +36,46 @@ invariant_of-self-2 c =
     let sites = c.deref_mut.result.now in
     let takes = c.take_at-taken.ensures.takes in
     let is : (with_items s.sites new.sites).items ≡ new.sites =
-    items s c.args.site there c.args.number made sites new.sites new.total answer c.deref.ensures.value c.deref_mut.ensures.value takes in
+    items s c.args.site there c.args.number made sites new.sites new.total answer c.deref.ensures.value
+    c.deref_mut.ensures.value takes in
     record {
       few = s.few;
       small = s.small;
-      most = rw is (few-sites s c.args.site there c.args.number made sites new.sites new.total answer c.deref.ensures.value c.deref_mut.ensures.value takes);
+      most = rw is (few-sites s c.args.site there c.args.number made sites new.sites new.total answer
+          c.deref.ensures.value c.deref_mut.ensures.value takes);
       within = c.take_at-taken.ensures.within;
-      kept = rw is (kept-taken s c.args.site there c.args.number made sites new.sites new.total answer c.deref.ensures.value c.deref_mut.ensures.value
-          takes (c.steps_keep_sessions_sound.ensures.integrated f) (c.steps_count_what_they_seek.ensures.all_integrated f)
-          c.take_at-taken.ensures.sorted);
-      forms = λ opened. rw is (forms-taken s c.args.site there c.args.number made sites new.sites new.total answer c.deref.ensures.value
-          c.deref_mut.ensures.value takes c.is_ok-self.result c.is_ok-self.ensures.value c.take_at-taken.ensures.can opened);
-      counts = λ opened. subst (λ (ss : List Site). new.total ≡ all_counted (data_of s.first s.made.items (map view_site ss))) (sym is)
-          (counts-taken s c.args.site there c.args.number made sites new.sites new.total answer c.deref.ensures.value c.deref_mut.ensures.value
-          takes (c.steps_keep_sessions_sound.ensures.integrated f) (c.steps_count_what_they_seek.ensures.all_integrated f)
-          c.is_ok-self.result c.is_ok-self.ensures.value c.requires opened);
+      kept = rw is (kept-taken s c.args.site there c.args.number made sites new.sites new.total answer
+          c.deref.ensures.value c.deref_mut.ensures.value takes (c.steps_keep_sessions_sound.ensures.integrated f)
+          (c.steps_count_what_they_seek.ensures.all_integrated f) c.take_at-taken.ensures.sorted);
+      forms = λ opened. rw is
+          (forms-taken s c.args.site there c.args.number made sites new.sites new.total answer c.deref.ensures.value
+          c.deref_mut.ensures.value takes c.is_ok-self.result c.is_ok-self.ensures.value
+          c.take_at-taken.ensures.can opened);
+      counts = λ opened.
+          subst (λ (ss : List Site). new.total ≡ all_counted (data_of s.first s.made.items (map view_site ss))) (sym is)
+          (counts-taken s c.args.site there c.args.number made sites new.sites new.total answer c.deref.ensures.value
+          c.deref_mut.ensures.value
+          takes (c.steps_keep_sessions_sound.ensures.integrated f) (c.steps_count_what_they_seek.ensures.all_integrated
+          f) c.is_ok-self.result c.is_ok-self.ensures.value c.requires opened);
     }
 
 pub returns-clause-taken : goal.returns-clause-taken
 returns-clause-taken c =
     let s = c.args.self.now in
-    taken s c.args.site (c.if-not-has_site.ensures.0 refl) c.args.number c.deref.result.now c.deref_mut.result.now c.take_at-taken.new.sites
-    c.take_at-taken.new.total c.take_at-taken.result c.deref.ensures.value c.deref_mut.ensures.value c.take_at-taken.ensures.takes
+    taken s c.args.site (c.if-not-has_site.ensures.0 refl) c.args.number c.deref.result.now c.deref_mut.result.now
+    c.take_at-taken.new.sites
+    c.take_at-taken.new.total c.take_at-taken.result c.deref.ensures.value c.deref_mut.ensures.value
+    c.take_at-taken.ensures.takes
     c.is_ok-self.result c.is_ok-self.ensures.value (omega (arith, c.if-number-len.false, c.len.ensures, s.made.ok.0))
 
 pub returns-clause-never_stuck : goal.returns-clause-never_stuck
 returns-clause-never_stuck c = λ tp1 tp2 chars.
     let s = c.args.self.now in
     let f = function_of s.rules in
-    never-stuck s c.args.site (c.if-not-has_site.ensures.0 refl) c.args.number c.deref.result.now c.deref_mut.result.now c.take_at-taken.new.sites
-    c.take_at-taken.new.total c.take_at-taken.result c.deref.ensures.value c.deref_mut.ensures.value c.take_at-taken.ensures.takes
+    never-stuck s c.args.site (c.if-not-has_site.ensures.0 refl) c.args.number c.deref.result.now c.deref_mut.result.now
+    c.take_at-taken.new.sites
+    c.take_at-taken.new.total c.take_at-taken.result c.deref.ensures.value c.deref_mut.ensures.value
+    c.take_at-taken.ensures.takes
     (c.steps_keep_sessions_sound.ensures.integrated f) (c.steps_count_what_they_seek.ensures.all_integrated f)
     (λ session. c.both_properties_give_one_document.ensures f session tp1 tp2 chars)
     (λ cells p. (c.tests_decide_their_facts.ensures.enabled cells p).1)
@@ -72,8 +84,10 @@ pub returns-clause-never_spent : goal.returns-clause-never_spent
 returns-clause-never_spent c = λ enough.
     let s = c.args.self.now in
     let f = function_of s.rules in
-    never-spent s c.args.site (c.if-not-has_site.ensures.0 refl) c.args.number c.deref.result.now c.deref_mut.result.now c.take_at-taken.new.sites
-    c.take_at-taken.new.total c.take_at-taken.result c.deref.ensures.value c.deref_mut.ensures.value c.take_at-taken.ensures.takes
+    never-spent s c.args.site (c.if-not-has_site.ensures.0 refl) c.args.number c.deref.result.now c.deref_mut.result.now
+    c.take_at-taken.new.sites
+    c.take_at-taken.new.total c.take_at-taken.result c.deref.ensures.value c.deref_mut.ensures.value
+    c.take_at-taken.ensures.takes
     (c.steps_keep_sessions_sound.ensures.integrated f) (c.steps_count_what_they_seek.ensures.all_integrated f)
     (c.sites_count_no_more_than_the_bound.ensures.whole f) (c.sites_count_no_more_than_the_bound.ensures.within f)
     (omega (arith, c.if-number-len.false, c.len.ensures, s.made.ok.0)) c.requires enough

@@ -7,7 +7,8 @@ use Rattle.ot_session.proofs.session.Session.test_make.Goals.{After-len}
 use Rattle.ot_session.proofs.session.Session.test_make.Goals as goal
 
 -- the operation passes the tests before the last one
-may : (c : After-len) → MayMake (function_of c.args.self.now.rules) (data_in (view_of c.args.self.now)) c.args.site c.args.op.now
+may : (c : After-len)
+    → MayMake (function_of c.args.self.now.rules) (data_in (view_of c.args.self.now)) c.args.site c.args.op.now
 may c = record {
   site = c.if-not-has_site.ensures.0 refl;
   own = c.if-not-is_made_at.ensures.0 refl;
@@ -19,7 +20,8 @@ pub returns-then-not-has_site-clause-err : goal.returns-then-not-has_site-clause
 returns-then-not-has_site-clause-err c = λ is. false≢true (c.if-not-has_site.ensures.1 is)
 
 pub returns-then-not-is_made_at-clause-err : goal.returns-then-not-is_made_at-clause-err
-returns-then-not-is_made_at-clause-err c = (c.if-not-has_site.ensures.0 refl, λ is. false≢true (c.if-not-is_made_at.ensures.1 is))
+returns-then-not-is_made_at-clause-err c =
+    (c.if-not-has_site.ensures.0 refl, λ is. false≢true (c.if-not-is_made_at.ensures.1 is))
 
 pub returns-then-not-has_declared_kind-clause-err : goal.returns-then-not-has_declared_kind-clause-err
 returns-then-not-has_declared_kind-clause-err c = (

@@ -12,7 +12,8 @@ invariant_of-self g c =
     elim c.match-ask.branch [
       | in-Ok w ↦
           under_way_still c.self.inside.refusal _ _ _
-          (rw w.in-Ok.ensures.ok (under_way_asked (g.A.Asker.is_own c.self.inside.asker) starts c.args.question c.self.inside.places here way))
+          (rw w.in-Ok.ensures.ok (under_way_asked (g.A.Asker.is_own c.self.inside.asker) starts c.args.question
+          c.self.inside.places here way))
       | in-Err w ↦ under_way_still c.self.inside.refusal _ _ _ (rw w.in-Err.ensures.err way)
     ]
 

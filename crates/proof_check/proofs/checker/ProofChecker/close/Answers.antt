@@ -12,7 +12,8 @@ invariant_of-self g c =
     let asker = c.self.inside.asker in
     let way = under_way c.self.inside.refusal _ _ _ (λ e some. cc) c.self.invariant in
     let after =
-    under_way_closed (g.A.Asker.is_own asker) (g.A.Starter.starts asker) c.self.inside.places settled opened cycle.0 cycle.2 way cycle.1 in
+    under_way_closed (g.A.Asker.is_own asker) (g.A.Starter.starts asker) c.self.inside.places settled opened
+    cycle.0 cycle.2 way cycle.1 in
     elim c.match-close.branch [
       | in-Ok w ↦ under_way_still c.self.inside.refusal _ _ _ (rw w.in-Ok.ensures.ok after)
       | in-Ok-2 w ↦ under_way_still c.self.inside.refusal _ _ _ (rw w.in-Ok-2.ensures.ok after)
@@ -26,7 +27,8 @@ returns-clause-taken g c p picks some is =
     let settled = rw (← view) at c.requires.settled in
     let among = rw (← view) at is in
     let asker = c.self.inside.asker in
-    let taken = cycle_here (g.A.Asker.is_own asker) (g.A.Starter.starts asker) c.self.inside.places settled opened picks among in
+    let taken = cycle_here (g.A.Asker.is_own asker) (g.A.Starter.starts asker) c.self.inside.places
+    settled opened picks among in
     elim c.match-close.branch [
       | in-Ok w ↦ rw (← view, w.in-Ok.ensures.ok) taken
       | in-Ok-2 w ↦ rw (← view, w.in-Ok-2.ensures.ok) taken

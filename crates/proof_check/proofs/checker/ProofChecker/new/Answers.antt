@@ -4,7 +4,8 @@ use Rattle.proof_check.proofs.checker.ProofChecker.new.Goals as goal
 pub invariant_of-result : goal.invariant_of-result
 invariant_of-result g c =
     let asker = c.first.new.self in
-    IsProofUnderWay-begun (g.A.Asker.is_own asker) (g.A.Starter.starts asker) (g.A.Asker.root asker) c.in_ok-first.first c.new.result
+    IsProofUnderWay-begun (g.A.Asker.is_own asker) (g.A.Starter.starts asker) (g.A.Asker.root asker)
+    c.in_ok-first.first c.new.result
     c.shown_plans_hold.ensures.whole (g.met.A.Starter.whole asker) c.in_ok-first.ensures.begins c.new.ensures
 
 pub returns-clause-root : goal.returns-clause-root

@@ -11,7 +11,8 @@ pub invariant_of-self : goal.invariant_of-self
 invariant_of-self g c =
     let fresh = rw (← c.self.view_is) at c.requires in
     let way = under_way c.self.inside.refusal _ _ _ (λ e some. cc) c.self.invariant in
-    under_way_still c.self.inside.refusal _ _ _ (IsProofUnderWay-kept c.question_at.ensures.same c.self.inside.places way.own way)
+    under_way_still c.self.inside.refusal _ _ _
+    (IsProofUnderWay-kept c.question_at.ensures.same c.self.inside.places way.own way)
 
 pub returns-clause-same : goal.returns-clause-same
 returns-clause-same g c =

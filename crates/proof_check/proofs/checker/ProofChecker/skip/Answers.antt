@@ -14,8 +14,8 @@ invariant_of-self g c =
       | in-Ok w ↦
           under_way_still c.self.inside.refusal _ _ _
           (rw (w.in-Ok.ensures.ok c.args.question.yes)
-          (under_way_skipped (g.A.Asker.is_own c.self.inside.asker) starts c.args.question c.self.inside.places here cycle.0 cycle.2 way
-          cycle.1))
+          (under_way_skipped (g.A.Asker.is_own c.self.inside.asker) starts c.args.question c.self.inside.places here
+          cycle.0 cycle.2 way cycle.1))
       | in-Err w ↦ under_way_still c.self.inside.refusal _ _ _ (rw w.in-Err.ensures.err way)
     ]
 
@@ -28,6 +28,7 @@ returns-clause-taken g c done picks among =
     elim c.match-ask_no.branch [
       | in-Ok w ↦
           rw (← view, w.in-Ok.ensures.ok c.args.question.yes)
-          (skipped_here (g.A.Asker.is_own asker) (g.A.Starter.starts asker) c.args.question c.self.inside.places here picks cycle)
+          (skipped_here (g.A.Asker.is_own asker) (g.A.Starter.starts asker) c.args.question
+          c.self.inside.places here picks cycle)
       | in-Err w ↦ absurd (cc)
     ]

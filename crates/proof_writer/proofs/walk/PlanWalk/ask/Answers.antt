@@ -10,8 +10,8 @@ returns-then-branch-2-clause-nodes g c =
 
 pub returns-clause-nodes : goal.returns-clause-nodes
 returns-clause-nodes g c =
-    parts_of_both c.args.self.now c.args.yes c.args.no c.part-on_yes.result.node c.push-2.new.self.items c.part-on_no.result
-    c.part-on_yes.ensures c.part-on_no.ensures
+    parts_of_both c.args.self.now c.args.yes c.args.no c.part-on_yes.result.node c.push-2.new.self.items
+    c.part-on_no.result c.part-on_yes.ensures c.part-on_no.ensures
     (pushed_on c.args.self.now.waiting.items c.split.new.self.waiting.items c.push-2.new.self.items
     (Part c.part-on_no.result) c.in_ok-split.ensures.waiting c.in_ok-push-2.ensures.items)
 
@@ -20,11 +20,13 @@ returns-in_err-put_ask-clause-front g c = c.put_ask.ensures
 
 pub returns-in_err-put_cycle-clause-front : goal.returns-in_err-put_cycle-clause-front
 returns-in_err-put_cycle-clause-front g c =
-    ExtendsText-trans c.args.out.now.items c.put_ask.new.out.items c.put_cycle.new.out.items c.put_ask.ensures c.put_cycle.ensures
+    ExtendsText-trans c.args.out.now.items c.put_ask.new.out.items c.put_cycle.new.out.items
+    c.put_ask.ensures c.put_cycle.ensures
 
 pub returns-then-branch-clause-front : goal.returns-then-branch-clause-front
 returns-then-branch-clause-front g c =
-    ExtendsText-trans c.args.out.now.items c.put_ask.new.out.items c.put_cycle.new.out.items c.put_ask.ensures c.put_cycle.ensures
+    ExtendsText-trans c.args.out.now.items c.put_ask.new.out.items c.put_cycle.new.out.items
+    c.put_ask.ensures c.put_cycle.ensures
 
 pub returns-then-branch-2-clause-front : goal.returns-then-branch-2-clause-front
 returns-then-branch-2-clause-front g c = c.put_ask.ensures

@@ -5,7 +5,8 @@ use Rattle.proof_writer.proofs.walk.PlanWalk.cite.Goals as goal
 
 pub returns-then-not-branch-clause-nodes : goal.returns-then-not-branch-clause-nodes
 returns-then-not-branch-clause-nodes g c =
-    others_kept c.args.self.now c.put_cycles.new.self c.in_ok-put_cycles.ensures.present c.in_ok-put_cycles.ensures.waiting
+    others_kept c.args.self.now c.put_cycles.new.self c.in_ok-put_cycles.ensures.present
+    c.in_ok-put_cycles.ensures.waiting
 
 pub returns-then-not-branch-2-clause-nodes : goal.returns-then-not-branch-2-clause-nodes
 returns-then-not-branch-2-clause-nodes g c =
@@ -23,26 +24,28 @@ returns-in_err-put-clause-front g c = c.put.ensures
 
 pub returns-in_err-put_cycles-clause-front : goal.returns-in_err-put_cycles-clause-front
 returns-in_err-put_cycles-clause-front g c =
-    ExtendsText-trans c.args.out.now.items c.put.new.out.items c.put_cycles.new.out.items c.put.ensures c.put_cycles.ensures.front
+    ExtendsText-trans c.args.out.now.items c.put.new.out.items c.put_cycles.new.out.items c.put.ensures
+    c.put_cycles.ensures.front
 
 pub returns-then-not-branch-clause-front : goal.returns-then-not-branch-clause-front
 returns-then-not-branch-clause-front g c =
-    ExtendsText-trans c.args.out.now.items c.put.new.out.items c.put_cycles.new.out.items c.put.ensures c.put_cycles.ensures.front
+    ExtendsText-trans c.args.out.now.items c.put.new.out.items c.put_cycles.new.out.items c.put.ensures
+    c.put_cycles.ensures.front
 
 pub returns-in_err-put_cycles-2-clause-front : goal.returns-in_err-put_cycles-2-clause-front
 returns-in_err-put_cycles-2-clause-front g c =
     ExtendsText-trans c.args.out.now.items c.put_cycles.new.out.items c.put_cycles-2.new.out.items
-    (ExtendsText-trans c.args.out.now.items c.put.new.out.items c.put_cycles.new.out.items c.put.ensures c.put_cycles.ensures.front)
-    c.put_cycles-2.ensures.front
+    (ExtendsText-trans c.args.out.now.items c.put.new.out.items c.put_cycles.new.out.items c.put.ensures
+    c.put_cycles.ensures.front) c.put_cycles-2.ensures.front
 
 pub returns-then-not-branch-2-clause-front : goal.returns-then-not-branch-2-clause-front
 returns-then-not-branch-2-clause-front g c =
     ExtendsText-trans c.args.out.now.items c.put_cycles.new.out.items c.put_cycles-2.new.out.items
-    (ExtendsText-trans c.args.out.now.items c.put.new.out.items c.put_cycles.new.out.items c.put.ensures c.put_cycles.ensures.front)
-    c.put_cycles-2.ensures.front
+    (ExtendsText-trans c.args.out.now.items c.put.new.out.items c.put_cycles.new.out.items c.put.ensures
+    c.put_cycles.ensures.front) c.put_cycles-2.ensures.front
 
 pub returns-clause-front : goal.returns-clause-front
 returns-clause-front g c =
     ExtendsText-trans c.args.out.now.items c.put_cycles.new.out.items c.put_cycles-2.new.out.items
-    (ExtendsText-trans c.args.out.now.items c.put.new.out.items c.put_cycles.new.out.items c.put.ensures c.put_cycles.ensures.front)
-    c.put_cycles-2.ensures.front
+    (ExtendsText-trans c.args.out.now.items c.put.new.out.items c.put_cycles.new.out.items c.put.ensures
+    c.put_cycles.ensures.front) c.put_cycles-2.ensures.front

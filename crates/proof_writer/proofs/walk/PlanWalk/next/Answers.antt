@@ -2,7 +2,8 @@ use Rattle.proof_writer.specs.declared.place.WriterTask.TheVariants.{Part, Cycle
 use Rattle.proof_writer.proofs.Walking.{others_popped, others_taken}
 use Rattle.proof_writer.proofs.walk.PlanWalk.next.Goals as goal
 
-pub returns-in_ok-put_last_cycle-in-Some-Cycle-clause-nodes : goal.returns-in_ok-put_last_cycle-in-Some-Cycle-clause-nodes
+pub returns-in_ok-put_last_cycle-in-Some-Cycle-clause-nodes :
+    goal.returns-in_ok-put_last_cycle-in-Some-Cycle-clause-nodes
 returns-in_ok-put_last_cycle-in-Some-Cycle-clause-nodes g c =
     others_popped c.args.self.now c.pop.new.self.items (Cycle c.in-Some-Cycle.count)
     (rw c.in-Some-Cycle.field-0-is at c.in-Some-Cycle.ensures.items)

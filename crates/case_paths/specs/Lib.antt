@@ -1,4 +1,0 @@
-pub mod Misfits
-pub mod Paths
-pub mod Lines
-pub mod PathTexts

@@ -1,9 +1,0 @@
-pub mod Kinds
-pub mod Languages
-pub mod Meaning
-pub mod Controls
-pub mod FixedMoves
-pub mod LineMoves
-pub mod GuardMoves
-pub mod Moves
-pub mod Faults

@@ -1,4 +1,0 @@
-pub mod CasesLeft
-mod CellExamples
-mod MoveExamples
-pub mod FormsThrough

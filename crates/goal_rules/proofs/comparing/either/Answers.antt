@@ -1,4 +1,0 @@
-use Rattle.goal_rules.proofs.comparing.either.Goals as goal
-
-pub returns : goal.returns
-returns c = c.fitting.ensures _ c.either.ensures

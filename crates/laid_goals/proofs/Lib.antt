@@ -1,4 +1,0 @@
-pub mod LaidForms
-mod LaidGoals
-mod LaidCells
-mod LaidTrials

@@ -1,4 +1,0 @@
-pub mod Unmarked
-pub mod StartsKept
-pub mod RuleMarks
-pub mod Begins

@@ -1,0 +1,3 @@
+pub mod Buildable
+pub mod Pairs
+mod Examples

@@ -1,0 +1,4 @@
+pub mod Edits
+pub mod Offers
+pub mod Ranks
+pub mod Members

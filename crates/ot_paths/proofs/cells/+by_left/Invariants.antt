@@ -1,0 +1,15 @@
+use Rattle.fn_rules.specs.Rules.{function_of}
+use Rattle.ot_terms.specs.Cells.{cell_tree}
+use Rattle.ot_terms.specs.Forms.{form_tree}
+use Rattle.ot_terms.specs.Goals.{If, Same}
+use Rattle.ot_terms.specs.Weights.{goal_weight}
+use Rattle.ot_paths.proofs.cells.+by_left.Given as goal
+
+abbrev pub decreases-by_left : goal.decreases-by_left
+decreases-by_left l = goal_weight (function_of l.rules.now) (Same (cell_tree l.left) (cell_tree l.right))
+
+abbrev pub decreases-left_parted : goal.decreases-left_parted
+decreases-left_parted l =
+    goal_weight (function_of l.rules.now)
+    (If (form_tree l.form.now) (Same (cell_tree l.yes.now) (cell_tree l.right))
+    (Same (cell_tree l.no.now) (cell_tree l.right)))

@@ -1,5 +1,0 @@
-use Rattle.ot_templates.proofs.Buildable.{templates_are_buildable}
-use Rattle.ot_templates.proofs.function.template.Goals as goal
-
-pub build-requires : goal.build-requires
-build-requires c = rw c.in_ok-blocks.ensures (templates_are_buildable c.args.head c.requires)

@@ -1,4 +1,0 @@
-mod OperationRows
-mod FunctionRows
-mod JudgingRows
-mod TokenRows

@@ -1,6 +1,0 @@
-use Rattle.std.proofs.Common.{◌≤◌, length}
-use Rattle.cert_text.specs.Reading.{fed_to}
-use Rattle.test_texts.proofs.reader.told_up_to.Given as goal
-
-abbrev pub invariant-loop-end : goal.invariant-loop-end
-invariant-loop-end l = (l.at ≤ length l.bytes) × (fed_to l.reader ≤ l.at)
