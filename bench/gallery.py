@@ -109,6 +109,7 @@ class Entry:
         status, least = run("least", path)
         self.broken = Counterexample(least) if status == 1 else None
         self.audit = audit_word(run("audit", path)[1])
+        self.edits = edits(path) if self.proved else edits(path) or edits(path, "--tp1")
 
     def link(self):
         return f"[`{self.name}`]({self.name}.ot)"
@@ -121,7 +122,7 @@ class Entry:
 
     def row(self):
         level, count = self.proved
-        return [self.link(), self.source, level, f"{count:,}"]
+        return [self.link(), self.source, level, f"{count:,}", "none" if self.edits is None else str(self.edits)]
 
     def fault(self):
         """What is wrong with one that is refuted, with its authors where it was published."""
@@ -141,6 +142,14 @@ class Entry:
 def proved(path, level, *options):
     status, _ = run("prove", *options, path)
     return (level, questions(path, *options)) if status == 0 else None
+
+
+def edits(path, *level):
+    """How many edits lead to a function with the level; None where no function of the head has it."""
+    status, text = run("mend", *level, path)
+    if status != 0:
+        return None if text == "none\n" else "more"
+    return len(re.findall("^# (?!as it was)", text, re.MULTILINE))
 
 
 def audit_word(text):
@@ -228,7 +237,8 @@ def table_of(steps):
     return [f"  {text:{width}}  {document}".rstrip() for text, document in steps]
 
 
-HEADS = ["function", "from", "level", "questions"]
+HEADS = ["function", "from", "level", "questions", "edits to both"]
+NUMBERS = {1: "One edit mends", 2: "Two edits mend", "more": "More than two edits mend"}
 AUDITS = {"open": "Some operations have no case in", "a case never": "A case is never taken in"}
 
 
@@ -238,6 +248,14 @@ def audits(entries):
         names = ", ".join(f"`{entry.name}`" for entry in entries if word in entry.audit)
         if names:
             yield f"- {meaning} {names}."
+
+
+def mended(entries):
+    """How many edits mend the refuted ones."""
+    for number, word in NUMBERS.items():
+        names = ", ".join(f"`{entry.name}`" for entry in entries if not entry.proved and entry.edits == number)
+        if names:
+            yield f"- {word} {names}."
 
 
 def broken_alike(entries):
@@ -260,6 +278,8 @@ def generated():
     lines += ["| " + " | ".join(entry.row()) + " |" for entry in entries if entry.proved]
     lines += ["", "`otp audit` finds besides:", ""]
     lines += [line for item in audits(entries) for line in wrapped(item)]
+    lines += ["", "`otp mend` gives the others both properties, or TP1 where their head has no more:", ""]
+    lines += [line for item in mended(entries) for line in wrapped(item)]
     lines += ["", "## What breaks the refuted ones", ""]
     others = []
     for shape, broken in broken_alike(entries):

@@ -41,7 +41,6 @@ Processor seconds by crate, of its proof, its tests and its must-fail edits:
 
 {rest}
 """
-HEAD = "| crate | proof | tests | edits |"
 TICKS = os.sysconf("SC_CLK_TCK")
 PARTS = ("proof", "tests", "edits")
 # How often it looks, in seconds.
@@ -127,15 +126,19 @@ class Book:
         self.close(self.running.values(), 0)
 
 
-def row(name, seconds):
-    return "| " + " | ".join([name, *(f"{it:.0f}" if it >= 0.5 else "" for it in seconds)]) + " |"
+def row(name, cells):
+    return f"{name:<16}{''.join(f'{cell:>7}' for cell in cells)}".rstrip()
+
+
+def told(seconds):
+    return [f"{it:.0f}" if it >= 0.5 else "" for it in seconds]
 
 
 def table(seconds):
     names = [name for name in crates() if any((name, part) in seconds for part in PARTS)]
     whole = [sum(seconds.get((name, part), 0) for name in names) for part in PARTS]
-    rows = [row(f"`{name}`", [seconds.get((name, part), 0) for part in PARTS]) for name in names]
-    return "\n".join([HEAD, "|---|---|---|---|", *rows, row("all", whole)])
+    rows = [row(name, told(seconds.get((name, part), 0) for part in PARTS)) for name in names]
+    return "\n".join(["```text", row("crate", PARTS), *rows, row("all", told(whole)), "```"])
 
 
 def minutes(seconds):

@@ -9,12 +9,10 @@ takes the whole log: the server carries a message over up to 960 entries, and a 
 operations. In the second one they are made, sent and taken in a drawn order, and then what is left. The last one has as
 many events as one can have.
 """
-import json
 import os
 import random
-import tempfile
 
-from measure import measure
+from measure import report_events
 
 from program import PROGRAM, make_ready
 
@@ -61,12 +59,7 @@ def longest():
 
 
 def report(name, hub):
-    with tempfile.NamedTemporaryFile("w", suffix=".json") as file:
-        json.dump(hub, file)
-        file.flush()
-        text, status, seconds, peak = measure([PROGRAM, "hub", FUNCTION, file.name])
-        last = text.splitlines()[-1] if text else ""
-        print(f"{name}: {len(hub['events'])} events, {seconds:.2f} s, {peak} KiB at the peak: {last} ({status})")
+    report_events(name, [PROGRAM, "hub", FUNCTION], hub)
 
 
 def main():

@@ -10,12 +10,12 @@ program, which answers `limit bound` where the first failing end has more than 1
 import os
 import random
 import sys
-from itertools import product
+from itertools import islice, product
 
 TOP = os.path.dirname(os.path.dirname(os.path.abspath(__file__)))
 sys.path.insert(0, os.path.join(TOP, "reference"))
 
-from certificate import LENGTH, Ask, Fails, closed, obligations, plan_of, read_function  # noqa: E402
+from certificate import LENGTH, Fails, obligations, places_of, plan_of, read_function  # noqa: E402
 from least import first_end, values_of  # noqa: E402
 
 PLACES = 4_000
@@ -45,23 +45,8 @@ def drawn_text(draw):
 
 def lengths(plan, names):
     """The lengths that the least values give at the failing ends that some integers meet."""
-    table = [[(0, ()) if x == y else None for y in range(names)] for x in range(names)]
-    waiting = [(plan, (), table, None)]
-    for _ in range(PLACES):
-        if not waiting:
-            return
-        go, answers, table, lit = waiting.pop()
-        if lit is not None:
-            answers += (lit,)
-            table, cycle = closed(table, *lit, len(answers) - 1)
-            if cycle is not None:
-                continue
-        here = go()
-        if isinstance(here, Ask):
-            x, y, k = here.lit
-            waiting.append((here.no, answers, table, (y, x, -k - 1)))
-            waiting.append((here.yes, answers, table, (x, y, k)))
-        elif isinstance(here, Fails):
+    for here, answers in islice(places_of(plan, names), PLACES):
+        if isinstance(here, Fails):
             yield values_of(answers, names)[LENGTH]
 
 

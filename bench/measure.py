@@ -4,6 +4,7 @@ The peak is that of GNU time, which is small itself: a child of Python would sho
 less than a second runs once more, alone and with its output in a file, so that the seconds are those from its own
 start to its own end.
 """
+import json
 import os
 import re
 import shutil
@@ -39,6 +40,16 @@ def measure(words):
     text, status, numbers = run_under_time(words, "%M")
     seconds = time.perf_counter() - start
     return text, status, run_alone(words) if seconds < 1 else seconds, int(numbers[0])
+
+
+def report_events(name, words, script, told=lambda file: ""):
+    """Measures a command on a script of events, and prints its last line, with what else is told of the script's file."""
+    with tempfile.NamedTemporaryFile("w", suffix=".json") as file:
+        json.dump(script, file)
+        file.flush()
+        text, status, seconds, peak = measure([*words, file.name])
+        last = text.splitlines()[-1] if text else ""
+        print(f"{name}: {len(script['events'])} events, {told(file.name)}{seconds:.2f} s, {peak} KiB at the peak: {last} ({status})")
 
 
 def measure_processor(words):

@@ -10,13 +10,11 @@ order, site 2 in falling order, where all but the last of a site are held, and s
 site 1. The last session is as long as one can be: all its events but the first are repeats. How many forms were counted
 is what reference/sessions.py says.
 """
-import json
 import os
 import subprocess
 import sys
-import tempfile
 
-from measure import REFERENCE, TOP, measure
+from measure import REFERENCE, TOP, report_events
 
 from drill import make, takes
 from program import PROGRAM, make_ready
@@ -45,16 +43,11 @@ def repeats():
 def forms_of(name):
     told = subprocess.run([sys.executable, os.path.join(REFERENCE, "sessions.py"), "--forms", FUNCTION, name], stdout=subprocess.PIPE, text=True)
     first = told.stdout.splitlines()[0]
-    return first.split(",")[0] if first.startswith("forms") else "forms 500000"
+    return (first.split(",")[0] if first.startswith("forms") else "forms 500000") + ", "
 
 
 def report(name, session):
-    with tempfile.NamedTemporaryFile("w", suffix=".json") as file:
-        json.dump(session, file)
-        file.flush()
-        text, status, seconds, peak = measure([PROGRAM, "replay", FUNCTION, file.name])
-        last = text.splitlines()[-1] if text else ""
-        print(f"{name}: {len(session['events'])} events, {forms_of(file.name)}, {seconds:.2f} s, {peak} KiB at the peak: {last} ({status})")
+    report_events(name, [PROGRAM, "replay", FUNCTION], session, forms_of)
 
 
 def main():

@@ -50,7 +50,7 @@ class Comparison:
     def compare(self, function, *contents):
         """The status that the second program gives."""
         names = [self.file("function", function), *(self.file("other", content) for content in contents)]
-        ran = subprocess.run([PROGRAM, self.command, *names], stdout=subprocess.PIPE, check=False)
+        ran = subprocess.run([PROGRAM, *self.command.split(), *names], stdout=subprocess.PIPE, check=False)
         status, text = self.answer(function, *(content.encode("utf-8") for content in contents))
         self.count += 1
         self.statuses[status] = self.statuses.get(status, 0) + 1
@@ -65,9 +65,14 @@ class Comparison:
         return self.wrong
 
 
-def compared(command, answer, compare_all):
-    """Compares what `compare_all` gives to a comparison of the command, and ends with what came of it."""
+def differing(command, answer, compare_all):
+    """How many differ of what `compare_all` gives to a comparison of the command."""
     with tempfile.TemporaryDirectory() as folder:
         comparison = Comparison(command, answer, folder)
         compare_all(comparison)
-    sys.exit(1 if comparison.end() else 0)
+    return comparison.end()
+
+
+def compared(command, answer, compare_all):
+    """The same, and ends with what came of it."""
+    sys.exit(1 if differing(command, answer, compare_all) else 0)

@@ -11,7 +11,7 @@ Nothing of the program is used, and nothing of the program rests on it.
 """
 import sys
 
-from certificate import KINDS, ZERO, Ask, Fails, Holds, Op, ask_guard, closed, differ, eq, le, read_function
+from certificate import KINDS, ZERO, Ask, Fails, Holds, Op, ask_guard, differ, eq, le, places_of, read_function
 
 FLOORS = [0, 0, 0, 0, 1, ord("a"), 0, 2, ord("b")]
 
@@ -67,23 +67,11 @@ def operations(kinds):
 
 def search(plan):
     """The answers at the first failing end that some integers meet, or None; and how many questions were asked."""
-    table = [[(0, ()) if x == y else None for y in range(9)] for x in range(9)]
-    waiting, questions = [(plan, (), table, None)], 0
-    while waiting:
-        go, answers, table, lit = waiting.pop()
-        if lit is not None:
-            answers += (lit,)
-            table, cycle = closed(table, *lit, len(answers) - 1)
-            if cycle is not None:
-                continue
-        here = go()
-        if isinstance(here, Ask):
-            x, y, k = here.lit
-            questions += 1
-            waiting.append((here.no, answers, table, (y, x, -k - 1)))
-            waiting.append((here.yes, answers, table, (x, y, k)))
-        elif isinstance(here, Fails):
+    questions = 0
+    for here, answers in places_of(plan, 9):
+        if isinstance(here, Fails):
             return answers, questions
+        questions += isinstance(here, Ask)
     return None, questions
 
 

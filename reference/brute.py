@@ -123,7 +123,7 @@ def guard_text(guard, least=0):
     else:
         # It is grouped from the left: on the right one that is alike needs parentheses.
         text = f"{guard_text(parts[0], level)} {word} {guard_text(parts[1], level + 1)}"
-    return f"({text})" if level < least else text
+    return f"( {text} )" if level < least else text
 
 
 def function_text(f):

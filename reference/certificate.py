@@ -301,31 +301,42 @@ def closed(table, x, y, k, number):
     return new, None
 
 
+def places_of(plan, names):
+    """The places of a plan over so many variables, yes before no: what stands at each that some integers reach, in place
+    of the others a negative cycle of the answers there; and these answers."""
+    waiting = [(plan, (), [[(0, ()) if x == y else None for y in range(names)] for x in range(names)], None)]
+    while waiting:
+        go, answers, table, lit = waiting.pop()
+        if lit is not None:
+            answers += (lit,)
+            table, cycle = closed(table, *lit, len(answers) - 1)
+            if cycle is not None:
+                yield cycle, answers
+                continue
+        here = go()
+        yield here, answers
+        if isinstance(here, Ask):
+            x, y, k = here.lit
+            waiting.append((here.no, answers, table, (y, x, -k - 1)))
+            waiting.append((here.yes, answers, table, (x, y, k)))
+
+
+def token_at(here):
+    """The token at a place that does not fail."""
+    if isinstance(here, Ask):
+        return "?"
+    return "." if isinstance(here, Holds) else "x" + ",".join(map(str, here)) + ";"
+
+
 def tree_of(f, kinds):
     """The tokens of the tree, the number of questions, and the cause of a failure or None."""
-    count = 9 if len(kinds) == 2 else 12
-    table = [[(0, ()) if x == y else None for y in range(count)] for x in range(count)]
-    tokens, questions = [], 0
-    waiting = [(lambda: plan_of(f, kinds), 0, table, None)]
-    while waiting:
-        go, depth, table, lit = waiting.pop()
-        if lit is not None:
-            table, cycle = closed(table, *lit, depth - 1)
-            if cycle is not None:
-                tokens.append("x" + ",".join(map(str, cycle)) + ";")
-                continue
-        plan = go()
-        if isinstance(plan, Ask):
-            x, y, k = plan.lit
-            tokens.append("?")
-            questions += 1
-            waiting.append((plan.no, depth + 1, table, (y, x, -k - 1)))
-            waiting.append((plan.yes, depth + 1, table, (x, y, k)))
-        elif isinstance(plan, Holds):
-            tokens.append(".")
-        else:
-            return tokens, questions, plan.why
-    return tokens, questions, None
+    tokens, why = [], None
+    for here, _ in places_of(lambda: plan_of(f, kinds), 3 + 3 * len(kinds)):
+        if isinstance(here, Fails):
+            why = here.why
+            break
+        tokens.append(token_at(here))
+    return tokens, tokens.count("?"), why
 
 
 def main():

@@ -15,7 +15,7 @@ import sys
 from itertools import product
 
 from audit import holds
-from certificate import INDEX, LENGTH, ZERO, Ask, Fails, Op, closed, obligations, plan_of, read_function
+from certificate import INDEX, LENGTH, ZERO, Ask, Fails, Op, obligations, places_of, plan_of, read_function, token_at
 from judge import File, Refused, judge_tree
 import judge
 
@@ -32,26 +32,11 @@ def below(f, kinds, bound):
 
 def search(plan, names):
     """The tokens of the tree, the answers at the first failing end that some integers meet or None, and the cause."""
-    table = [[(0, ()) if x == y else None for y in range(names)] for x in range(names)]
-    waiting, tokens = [(plan, (), table, None)], []
-    while waiting:
-        go, answers, table, lit = waiting.pop()
-        if lit is not None:
-            answers += (lit,)
-            table, cycle = closed(table, *lit, len(answers) - 1)
-            if cycle is not None:
-                tokens.append("x" + ",".join(map(str, cycle)) + ";")
-                continue
-        here = go()
-        if isinstance(here, Ask):
-            x, y, k = here.lit
-            tokens.append("?")
-            waiting.append((here.no, answers, table, (y, x, -k - 1)))
-            waiting.append((here.yes, answers, table, (x, y, k)))
-        elif isinstance(here, Fails):
+    tokens = []
+    for here, answers in places_of(plan, names):
+        if isinstance(here, Fails):
             return tokens, answers, here.why
-        else:
-            tokens.append(".")
+        tokens.append(token_at(here))
     return tokens, None, None
 
 

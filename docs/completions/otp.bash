@@ -1,6 +1,6 @@
 # Completions of otp for bash: source this file.
 _otp() {
-    local commands="prove settle explain check least bound confirm audit same reverse integrate replay hub trace template drill"
+    local commands="prove settle explain check least bound confirm audit same reverse integrate replay hub trace template mend drill"
     local word=${COMP_WORDS[COMP_CWORD]} command=${COMP_WORDS[1]} ending=
     COMPREPLY=()
     if [ "$COMP_CWORD" -eq 1 ]; then
@@ -15,6 +15,7 @@ _otp() {
         least:-*) COMPREPLY=($(compgen -W "--cert" -- "$word")); return ;;
         template:-*) COMPREPLY=($(compgen -W "--tp1 --sites-differ --chars-differ" -- "$word")); return ;;
         template:*) COMPREPLY=($(compgen -W "plain tomb ins del upd" -- "$word")); return ;;
+        mend:-*) COMPREPLY=($(compgen -W "--tp1 --edits --budget" -- "$word")); return ;;
         drill:*) COMPREPLY=($(compgen -W "$(seq 16)" -- "$word")); return ;;
     esac
     # The first file is a function; a second one is what the command reads beside it.

@@ -10,5 +10,4 @@ pub mod Hubs
 pub use Rattle.ot_model.specs.Cells
 pub mod Misfits
 pub mod Paths
-pub mod Lines
 pub mod PathTexts

@@ -8,7 +8,7 @@ use Rattle.ot_model.specs.declared.op.Kind.{Kind}
 use Rattle.ot_model.specs.Kinds.{has_char}
 use Rattle.case_json.specs.Json.{elements_of, char_in, is_word}
 use Rattle.case_json.specs.Operations.{kind_in, number_in, position_in}
-use Rattle.case_json.specs.declared.path.Places.{Places}
+use Rattle.json_places.specs.declared.places.Places.{Places}
 
 -- the value itself
 abbrev pub here : Places

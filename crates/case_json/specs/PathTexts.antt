@@ -5,11 +5,11 @@ use Rattle.case_json.specs.declared.fault.CaseFault.{CaseFault}
 use Rattle.case_json.specs.declared.fault.CaseFault.TheVariants as faults
 use Rattle.case_json.specs.declared.fault.Name.{Name}
 use Rattle.case_json.specs.declared.fault.Name.TheVariants as names
-use Rattle.case_json.specs.declared.line.LineColumn.{LineColumn}
+use Rattle.json_places.specs.declared.line.LineColumn.{LineColumn}
 use Rattle.case_json.specs.declared.path.EventCause.{EventCause}
 use Rattle.case_json.specs.declared.path.EventCause.TheVariants as causes
 use Rattle.case_json.specs.declared.path.FaultPath.{FaultPath}
-use Rattle.case_json.specs.declared.path.Places.{Places}
+use Rattle.json_places.specs.declared.places.Places.{Places}
 use Rattle.case_json.specs.Paths.{key_of}
 
 -- a place in an array

@@ -1,19 +1,21 @@
 -- The path of a fault: the key of a part of a file, and the places in arrays under it, outermost first.
 use Rattle.std.specs.Prelude.{ℕ, List, Option, Some, None, codes, unwrap_or}
-use Rattle.std.specs.Option.{option_and_then}
+use Rattle.std.specs.Option.{option_and_then, option_map}
 use Rattle.serde_json.specs.Data.{Data}
 use Rattle.serde_json.specs.Find.{get}
 use Rattle.case_json.specs.declared.fault.CaseFault.{CaseFault}
 use Rattle.case_json.specs.declared.fault.CaseFault.TheVariants as faults
 use Rattle.case_json.specs.declared.fault.Name.{Name}
 use Rattle.case_json.specs.declared.fault.Name.TheVariants as names
-use Rattle.case_json.specs.Json.{json_in}
 use Rattle.case_json.specs.declared.path.EventCause.{EventCause}
 use Rattle.case_json.specs.declared.path.EventCause.TheVariants as causes
 use Rattle.case_json.specs.declared.path.FaultPath.{FaultPath}
 use Rattle.case_json.specs.declared.path.Layout.{Layout}
 use Rattle.case_json.specs.declared.path.Layout.TheVariants as layouts
-use Rattle.case_json.specs.declared.path.Places.{Places}
+use Rattle.json_places.specs.declared.line.LineColumn.{LineColumn}
+use Rattle.json_places.specs.declared.places.Places.{Places}
+use Rattle.json_places.specs.Lines.{line_column}
+use Rattle.json_places.specs.Values.{value_at}
 use Rattle.case_json.specs.Misfits.{array_misfit, here, hub_event_misfit, inside, operation_misfit, order_misfit, place}
 use Rattle.case_json.specs.Misfits.{session_event_misfit}
 
@@ -71,3 +73,7 @@ cause_places causes.Number = place 2
 -- the path of what is wrong with the event with this number
 abbrev pub event_path_of : ℕ → EventCause → FaultPath
 event_path_of i cause = record { part = names.Events; places = inside i (cause_places cause) }
+
+-- the line and the column at which the value at a path begins, if there is one
+abbrev pub line_column_of : List ℕ → FaultPath → Option LineColumn
+line_column_of bytes path = option_map (line_column bytes) (value_at bytes (key_of path.part) path.places)

@@ -3,12 +3,13 @@ ghost use Rattle.std.specs.Prelude.{◌≡◌, Some, IfOk};
 ghost use Rattle.std.specs.Option.{option_map};
 ghost use Rattle.serde_json.specs.View.{view};
 ghost use Rattle.case_json.specs.Json.{json_in};
-ghost use Rattle.case_json.specs.Paths.{cause_places, event_path_of, key_of, limited_part, part_misfit, path_of};
-ghost use Rattle.case_json.specs.Paths.{places_in};
+ghost use Rattle.case_json.specs.Paths.{cause_places, event_path_of, key_of, limited_part, line_column_of, part_misfit};
+ghost use Rattle.case_json.specs.Paths.{path_of, places_in};
 
 use crate::misfits::{HubEvent, Operation, Order, SessionEvent, array_misfit, here, inside};
-use crate::path::{EventCause, FaultPath, Layout, Places};
+use crate::path::{EventCause, FaultPath, Layout};
 use crate::{CaseFault, Name, NoMemory};
+use json_places::{LineColumn, Places, line_column, value_offset};
 use serde_json::Value;
 use std::alloc::Global;
 
@@ -134,4 +135,12 @@ pub fn event_path(number: u32, cause: EventCause) -> FaultPath
         part: Name::Events,
         places: inside(number as usize, cause_places(cause)),
     }
+}
+
+/// The line and the column at which the value at a path begins, if there is one.
+pub fn line_column_of(bytes: &[u8], path: &FaultPath) -> Option<LineColumn>
+    ensures { result ≡ line_column_of bytes.now path.now }
+{
+    let offset = value_offset(bytes, key_of(path.part), path.places)?;
+    Some(line_column(bytes, offset))
 }

@@ -6,8 +6,8 @@
 //! tests. The layers above rely on these clauses: `trial_read` answers the reading of a case for a function,
 //! `trial_in`, unless memory is wanting, and what was read can be integrated; `script_read` and `hub_read`
 //! answer the readings of scripts, `script_in` and `hub_script_in`, and what was read is within the limits. Of a
-//! refused file `fault_path` gives the path of its fault (`path_of`), and `write_fault` appends the path, the line and
-//! column, and a sentence of the cause.
+//! refused file `fault_path` gives the path of its fault (`path_of`) and `line_column_of` where the value there begins;
+//! `write_fault` appends the path, the line and the column, and a sentence of the cause.
 #![tactic(auto)]
 
 mod case;
@@ -19,7 +19,6 @@ mod hub;
 mod json;
 mod laws;
 mod limits;
-mod line;
 mod misfits;
 mod operation;
 mod parts;
@@ -29,21 +28,19 @@ mod session;
 mod stop;
 mod texts;
 mod trial;
-mod walk;
 
 pub use case::trial_read;
 pub use doc_text::{char_write, doc_read, doc_write};
 pub use fault::{CaseFault, Name};
-pub use finding::{event_path, fault_path};
+pub use finding::{event_path, fault_path, line_column_of};
 pub use hub::{HubEvent, HubScript, hub_read};
+pub use json_places::{LineColumn, Places};
 pub use laws::read_trials_are_ready;
 pub use limits::{MAX_EVENTS, MAX_NUMBER, MAX_ORDERS, MAX_POSITION, MAX_SITES};
-pub use line::{LineColumn, line_column};
-pub use path::{EventCause, FaultPath, Layout, Places};
+pub use path::{EventCause, FaultPath, Layout};
 pub use script::{Event, Script};
 pub use session::script_read;
 pub use std::alloc::AllocError as NoMemory;
 pub use stop::CaseError;
 pub use texts::{write_cause, write_fault};
 pub use trial::Trial;
-pub use walk::value_offset;

@@ -7,8 +7,8 @@ ghost use Rattle.case_json.specs.Json.{char_in, elements_of, is_word, number_up_
 ghost use Rattle.case_json.specs.Operations.{kind_in, operation_word, position_in};
 ghost use Rattle.case_json.specs.Misfits as misfits;
 
-use crate::path::Places;
 use crate::{MAX_NUMBER, MAX_POSITION};
+use json_places::Places;
 use ot_model::{KINDS, Kind};
 use serde_json::Value;
 
@@ -16,7 +16,7 @@ use serde_json::Value;
 pub(crate) trait Shape {
     ghost use Rattle.std.specs.Prelude.{Option};
     ghost use Rattle.serde_json.specs.Data.{Data};
-    ghost use Rattle.case_json.specs.declared.path.Places.{Places};
+    ghost use Rattle.json_places.specs.declared.places.Places.{Places};
 
     /// Where a value does not fit.
     ghost wrong: { Data → Option Places };

@@ -1,5 +1,6 @@
 //! The path of a fault.
 use crate::Name;
+use json_places::Places;
 
 /// What a file holds.
 #[derive(Clone, Copy, PartialEq, Eq)]
@@ -12,14 +13,6 @@ pub enum Layout {
 
     /// A hub.
     Hub,
-}
-
-/// Places in arrays, each within the one before it, counted from 0.
-#[derive(Clone, Copy, PartialEq, Eq)]
-pub struct Places {
-    pub first: Option<usize>,
-    pub second: Option<usize>,
-    pub third: Option<usize>,
 }
 
 /// The path of a value in a file.

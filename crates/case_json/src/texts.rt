@@ -3,9 +3,9 @@ ghost use Rattle.std.specs.Prelude.{◌≡◌, ◌++◌, ◌∷◌, [], OnOk};
 ghost use Rattle.case_json.specs.PathTexts as texts;
 
 use crate::finding::key_of;
-use crate::line::LineColumn;
-use crate::path::{EventCause, FaultPath, Places};
+use crate::path::{EventCause, FaultPath};
 use crate::{CaseFault, Name, NoMemory};
+use json_places::{LineColumn, Places};
 use std::alloc::Global;
 
 fn append(bytes: &[u8], out: &mut Vec<u8>) -> Result<(), NoMemory>

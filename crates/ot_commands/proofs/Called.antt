@@ -143,6 +143,7 @@ module _ (Gets : Function → Option (List ℕ) → Reply → Type 0) (Agrees : 
         (known_first old new first mid.bytes told
         (first_behind old mid new first mid.bytes second new.bytes opened behind) tells) (Ok f) read
 
+    -- what a call answers over both files is the reply to them, and never 1 where what it has to agree on holds
     pub both_given :
         {E : Type 0} (called : Result Reply E) → IfOk called (λ r. ForTold new.bytes (λ told. Gets f told r))
         → (Agrees f → IfOk called (λ r. status_of r ≢ 1))

@@ -100,6 +100,7 @@ module _ (broken_there :
     → LeadTo why (plan_of f ob) w → AreLeast w (floors_of ob) values
     → Breaks f (level_of ob) (document_at (valuation_of values) why) (ops_at (valuation_of values) ob))
     (f : Function) (valid : IsTrue (is_valid f)) (tp1 : HasTp1 f) (tp2 : HasTp2 f) where
+  -- a function with both properties that gets no certificate has too many questions
   other_verdict :
       (r : Reply) (verdict : Verdict) → IsDecidedAs f Tp2 most_questions verdict → TellsVerdict f verdict r
       → ((bytes : List ℕ) → r ≢ Proved bytes) → HasTooMany f r

@@ -9,6 +9,7 @@ mod HubEnding
 mod HubRunning
 pub mod HubStatus
 mod Judged
+mod Mending
 mod PassedOn
 mod ReadCertificate
 mod Refusing

@@ -122,6 +122,7 @@ module _ {S : Type 0} {shelf : Ghosts S} {T : Type 0} (Judges : List ℕ → Res
     nothing_of (suc n) [] none = refl
     nothing_of (suc n) (b ∷ bytes) none = cc
 
+    -- no byte follows: the judgement is of the whole file
     pub ended_reply : unread_of last ≡ [] → (r : Reply) → Tells accepts judgement r
         → IsReplyToCertificate Judges accepts (Some (bytes_read last)) r
     ended_reply none r tells = (

@@ -1,6 +1,6 @@
 -- Which reply the text of a function gets that is to be explained: why the function has the properties of a level,
 -- where it breaks one, that neither search decides it, or why there is no function.
-use Rattle.std.specs.Prelude.{◌≡◌, ℕ, Bool, List, [], length, Option, Some, None, Result, Ok, Err}
+use Rattle.std.specs.Prelude.{◌≡◌, ℕ, ◌≤◌, Bool, List, [], length, Option, Some, None, Result, Ok, Err}
 use Rattle.fn_tokens.specs.declared.fault.TextFault.{TextFault}
 use Rattle.fn_rules.specs.declared.function.Level.{Level}
 use Rattle.fn_rules.specs.declared.function.ObName.{ObName}
@@ -16,13 +16,15 @@ use Rattle.ot_decide.specs.declared.verdict.Verdict.TheVariants as verdicts
 use Rattle.ot_decide.specs.Verdicts.{IsDecidedAs}
 use Rattle.ot_settle.specs.declared.settled.Settled.{Settled}
 use Rattle.ot_settle.specs.declared.settled.Settled.TheVariants as outcomes
+use Rattle.plan_proofs.specs.declared.planning.TheConstants.{MAX_BYTES}
 use Rattle.plan_proofs.specs.declared.ended.Questions.{Questions}
 use Rattle.plan_proofs.specs.declared.ended.SpentCause.{SpentCause}
 use Rattle.plan_proofs.specs.declared.ended.SpentCause.TheVariants as spent
-use Rattle.ot_settle.specs.Outcomes.{HasCause, IsSettled}
+use Rattle.ot_settle.specs.Outcomes.{HasCause, IsCause, IsSettled}
 use Rattle.ot_counter.specs.declared.counter.Counter.{Counter}
 use Rattle.ot_counter.specs.Counters.{IsCounter}
 use Rattle.ot_steps.specs.ExplainedTexts.{explained_text}
+use Rattle.ot_replies.specs.declared.reply.Attempt.{Attempt}
 use Rattle.ot_replies.specs.declared.reply.Explanation.TheVariants.{Holds, Breaks, Open, Misread}
 use Rattle.ot_replies.specs.declared.reply.Ground.TheVariants as grounds
 use Rattle.ot_replies.specs.declared.reply.Reply.{Reply}
@@ -45,11 +47,37 @@ hint_lines (Some hint) = hint_text hint
 abbrev pub help_of : List ℕ → List ℕ
 help_of bytes = hint_lines (hint_in bytes)
 
--- why `settle` says nothing
+-- why `settle` says nothing: it asked all questions that it may ask, or a proof would be longer than one may be, or it
+-- found none
 abbrev pub unsettled_by : SpentCause → Unsettled
-unsettled_by spent.Budget = causes.Questions
-unsettled_by spent.Bytes = causes.Bytes
+unsettled_by spent.Budget = causes.Questions settling_questions
+unsettled_by spent.Bytes = causes.Bytes MAX_BYTES
 unsettled_by spent.NoWay = causes.NoProof
+
+-- what a search came to that said nothing for a cause, by so many questions and with so many bytes written
+abbrev pub attempt_of : SpentCause → Questions → ℕ → Attempt
+attempt_of cause asked written = record {
+  cause = unsettled_by cause;
+  asked = asked.asked;
+  again = asked.again;
+  bytes = written;
+}
+
+-- how many questions an attempt asked, and asked again
+abbrev pub questions_of : Attempt → Questions
+questions_of a = record { asked = a.asked; again = a.again }
+
+-- no more questions were asked than may be, and no more asked again
+abbrev pub AreAllowed : ℕ → Questions → Type 0
+AreAllowed budget asked = (asked.asked ≤ budget) × (asked.again ≤ budget)
+
+-- an attempt by as many questions as `settle` is allowed: it names a cause that is so, by its own questions and bytes
+pub record IsAttempt (a : Attempt) : Type 0 where
+  pub allowed : AreAllowed settling_questions (questions_of a)
+  pub cause : SpentCause
+  pub named : a.cause ≡ unsettled_by cause
+  pub over : Bool
+  pub is_so : IsCause settling_questions (questions_of a) over a.bytes cause
 
 -- the reply tells the counterexample of the answers that lead to a failing end, and what became of its operations
 abbrev pub ExplainsCounter : Function → ObName → List Answer → Why → Reply → Type 0
@@ -57,18 +85,22 @@ ExplainsCounter f ob answers why r =
     (counter : Counter) × IsCounter f ob (answered_by answers) why counter
     × (r ≡ Explained (Breaks counter (steps_of f counter)))
 
--- the reply tells what settling came to: how long the proof is, the counterexample, or why nothing is said
-abbrev pub ExplainsSettled : Function → Level → Settled → Reply → Type 0
-ExplainsSettled f level (outcomes.Yes bytes) r = r ≡ Explained (Holds level (grounds.Proof (length bytes.items)))
-ExplainsSettled f level (outcomes.No ob answers why) r = ExplainsCounter f ob answers.items why r
-ExplainsSettled f level (outcomes.Spent cause) r = r ≡ Explained (Open (unsettled_by cause))
+-- the reply tells what settling came to, by so many questions and with so many bytes written: how long the proof is,
+-- the counterexample, or why nothing is said
+abbrev pub ExplainsSettled : Function → Level → Questions → ℕ → Settled → Reply → Type 0
+ExplainsSettled f level asked written (outcomes.Yes bytes) r =
+    r ≡ Explained (Holds level (grounds.Proof (length bytes.items)))
+ExplainsSettled f level asked written (outcomes.No ob answers why) r = ExplainsCounter f ob answers.items why r
+ExplainsSettled f level asked written (outcomes.Spent cause) r =
+    r ≡ Explained (Open most_questions (attempt_of cause asked written))
 
 -- the reply to a function of which `prove` says nothing: it is settled, by as many questions as `settle` is allowed
 -- where the words do not say
 abbrev pub IsReplyToUnproved : Function → Level → Reply → Type 0
 IsReplyToUnproved f level r =
     (settled : Settled) × (asked : Questions) × (over : Bool) × (written : ℕ) × IsSettled f level settled
-    × HasCause settling_questions asked over written settled × ExplainsSettled f level settled r
+    × AreAllowed settling_questions asked × HasCause settling_questions asked over written settled
+    × ExplainsSettled f level asked written settled r
 
 -- the reply tells the verdict: how many questions there are, or the counterexample of the first failing end
 abbrev pub ExplainsVerdict : Function → Level → Verdict → Reply → Type 0

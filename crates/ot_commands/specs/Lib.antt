@@ -1,5 +1,6 @@
 pub mod Facts
 pub mod Load
+pub mod Mend
 pub mod Prove
 pub mod Settle
 pub mod Explain

@@ -5,7 +5,7 @@ use Rattle.ot_replies.specs.declared.reply.Reply.{Reply}
 use Rattle.ot_replies.specs.declared.reply.Reply.TheVariants.{Usage}
 use Rattle.ot_replies.specs.declared.reply.Subject.TheVariants.{First, Second}
 use Rattle.ot_words.specs.Commands.{Asked, Prove, Settle, Check, Integrate, Replay, Hub, Audit, Same, Reverse, Least}
-use Rattle.ot_words.specs.Commands.{Bound, Confirm, Template, Drill, Explain, Trace}
+use Rattle.ot_words.specs.Commands.{Bound, Confirm, Template, Drill, Explain, Mend, Trace}
 use Rattle.ot_words.specs.Words.{asked_by}
 use Rattle.ot_commands.specs.Audit.{audit_facts}
 use Rattle.ot_commands.specs.Bound.{bound_facts}
@@ -18,6 +18,7 @@ use Rattle.ot_commands.specs.Hub.{hub_facts}
 use Rattle.ot_commands.specs.Integrate.{integrate_facts}
 use Rattle.ot_commands.specs.Least.{least_facts}
 use Rattle.ot_commands.specs.Load.{GoesOnBehind, IsReplyToFile, IsReplyToFunction}
+use Rattle.ot_commands.specs.Mend.{mend_facts}
 use Rattle.ot_commands.specs.Prove.{prove_facts}
 use Rattle.ot_commands.specs.Replay.{replay_facts}
 use Rattle.ot_commands.specs.Reverse.{reverse_facts}
@@ -31,6 +32,7 @@ use Rattle.ot_replies.specs.declared.reply.FileKind.TheVariants as files
 abbrev pub facts_of : Asked → Facts
 facts_of (Prove level budget function) = prove_facts level budget function
 facts_of (Settle level budget function) = settle_facts level budget function
+facts_of (Mend level edits budget function) = mend_facts level edits budget function
 facts_of (Explain level function) = explain_facts level function
 facts_of (Check function certificate) = check_facts function certificate
 facts_of (Integrate function case) = integrate_facts function case

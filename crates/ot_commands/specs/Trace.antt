@@ -1,6 +1,7 @@
 -- Which reply a case, a session or a hub gets that is told step by step: what happened, and then what the command
 -- replies that runs it.
 use Rattle.std.specs.Prelude.{◌≡◌, ℕ, List, [], ◌++◌, Option, Result, Ok, Err}
+use Rattle.std.specs.Option.{option_and_then}
 use Rattle.fn_rules.specs.Functions.{Function}
 use Rattle.case_json.specs.declared.fault.CaseFault.{CaseFault}
 use Rattle.case_json.specs.declared.hub.HubScript.{HubScript}
@@ -10,12 +11,12 @@ use Rattle.case_json.specs.Cases.{trial_in}
 use Rattle.case_json.specs.Hubs.{hub_script_in}
 use Rattle.case_json.specs.Json.{json_in}
 use Rattle.case_json.specs.Scripts.{script_in}
-use Rattle.case_json.specs.declared.line.LineColumn.{LineColumn}
 use Rattle.case_json.specs.declared.path.EventCause.{EventCause}
 use Rattle.case_json.specs.declared.path.EventCause.TheVariants as causes
+use Rattle.case_json.specs.declared.path.FaultPath.{FaultPath}
 use Rattle.case_json.specs.declared.path.Layout.{Layout}
 use Rattle.case_json.specs.declared.path.Layout.TheVariants as layouts
-use Rattle.case_json.specs.Paths.{event_path_of, path_of}
+use Rattle.case_json.specs.Paths.{event_path_of, line_column_of, path_of}
 use Rattle.case_json.specs.PathTexts.{cause_lines, fault_lines}
 use Rattle.ot_replies.specs.declared.reply.FileKind.TheVariants as files
 use Rattle.ot_replies.specs.declared.reply.Reply.{Reply}
@@ -34,10 +35,6 @@ use Rattle.ot_commands.specs.Integrate.{TellsOutcomes, outcomes_of}
 use Rattle.ot_commands.specs.Load.{IsReplyToFile}
 use Rattle.ot_commands.specs.Replay.{IsReplyToScript}
 
--- what is told, behind it the reply of the command that runs the file, and behind that where its fault is
-abbrev pub traced : List ℕ → Reply → List ℕ → Reply
-traced told end where_it_is = Traced (told ++ text_of end ++ where_it_is) (status_of end)
-
 -- how the file is laid out
 abbrev pub layout_of : TraceKind → Layout
 layout_of traces.Case = layouts.Case
@@ -52,14 +49,25 @@ cause_of refused.Kind = causes.Kind
 cause_of refused.Enabled = causes.Enabled
 cause_of refused.Number = causes.Number
 
--- the lines say where the fault of a reply is in these bytes: its path, the line and the column of a byte, if one was
--- found there, and its cause; of another reply there is nothing to say
-abbrev pub SaysWhere : TraceKind → List ℕ → Reply → List ℕ → Type 0
-SaysWhere events bytes (CaseRefused fault) lines =
-    (at : Option LineColumn) × (lines ≡ fault_lines (path_of (layout_of events) (json_in bytes) fault) at fault)
-SaysWhere events bytes (EventRefused i why) lines =
-    (at : Option LineColumn) × (lines ≡ cause_lines (event_path_of i (cause_of why)) at (cause_of why))
-SaysWhere events bytes end lines = lines ≡ []
+-- where a fault is whose path is this one in these bytes: the line and the column are those of the value there
+abbrev pub placed_fault : List ℕ → Option FaultPath → CaseFault → List ℕ
+placed_fault bytes path fault = fault_lines path (option_and_then (line_column_of bytes) path) fault
+
+-- the same of an event
+abbrev pub placed_cause : List ℕ → FaultPath → EventCause → List ℕ
+placed_cause bytes path cause = cause_lines path (line_column_of bytes path) cause
+
+-- the lines that say where the fault of a reply is in these bytes: its path, the line and the column of the value
+-- there, if there is one, and its cause; of another reply there is nothing to say
+abbrev pub where_lines : TraceKind → List ℕ → Reply → List ℕ
+where_lines events bytes (CaseRefused fault) =
+    placed_fault bytes (path_of (layout_of events) (json_in bytes) fault) fault
+where_lines events bytes (EventRefused i why) = placed_cause bytes (event_path_of i (cause_of why)) (cause_of why)
+where_lines events bytes end = []
+
+-- what is told of these bytes, behind it the reply of the command that runs the file, then where its fault is
+abbrev pub traced : TraceKind → List ℕ → List ℕ → Reply → Reply
+traced events bytes told end = Traced (told ++ text_of end ++ where_lines events bytes end) (status_of end)
 
 -- In what follows `told` is what is told of a file that is read so, and `end` the reply of the command that
 -- runs it. Of a file that is refused nothing is told.
@@ -88,8 +96,7 @@ IsTracedAs traces.Hub f bytes told end = TellsHubScript f (hub_script_in bytes) 
 -- the reply to the bytes
 abbrev pub IsReplyToTraced : TraceKind → Function → List ℕ → Reply → Type 0
 IsReplyToTraced events f bytes r =
-    (told : List ℕ) × (end : Reply) × (lines : List ℕ) × IsTracedAs events f bytes told end
-    × SaysWhere events bytes end lines × (r ≡ traced told end lines)
+    (told : List ℕ) × (end : Reply) × IsTracedAs events f bytes told end × (r ≡ traced events bytes told end)
 
 -- the reply to its file
 abbrev pub IsReplyToTracedFile : TraceKind → Function → Option (List ℕ) → Reply → Type 0

@@ -9,11 +9,14 @@ ghost use Rattle.ot_outside.specs.Unchanged.{Unchanged};
 ghost use Rattle.ot_prove.specs.Outcomes.{AreAnswersTo, answered_by};
 ghost use Rattle.ot_questions.specs.Obligation.{plan_of};
 ghost use Rattle.ot_replies.specs.Limits.{limit_of};
+ghost use Rattle.ot_replies.specs.declared.reply.Explanation.TheVariants.{Open};
 ghost use Rattle.ot_replies.specs.declared.reply.FileKind.TheVariants as files;
+ghost use Rattle.ot_replies.specs.declared.reply.Reply.TheVariants.{Explained};
 ghost use Rattle.ot_words.specs.Commands.{Explain};
+ghost use Rattle.ot_words.specs.Words.{most_questions};
 ghost use Rattle.ot_settle.specs.Outcomes.{IsSettled};
 ghost use Rattle.ot_commands.specs.Explain.{ExplainsCounter, ExplainsSettled, IsReplyToExplained, IsReplyToText};
-ghost use Rattle.ot_commands.specs.Explain.{IsReplyToUnproved, help_of, unsettled_by};
+ghost use Rattle.ot_commands.specs.Explain.{IsReplyToUnproved, attempt_of, help_of, unsettled_by};
 ghost use Rattle.ot_commands.specs.Given.{IsReplyOfGiven};
 ghost use Rattle.ot_commands.specs.Replies.{IsReplyTo};
 
@@ -28,8 +31,8 @@ use ot_model::NoMemory;
 use ot_outside::Shelf;
 use ot_prove::Answer;
 use ot_questions::Why;
-use ot_replies::{Explanation, FileKind, Ground, Reply, Unsettled};
-use ot_settle::{Settled, SpentCause, settle_all};
+use ot_replies::{Attempt, Explanation, FileKind, Ground, Reply, Unsettled};
+use ot_settle::{MAX_BYTES, Questions, Settled, SpentCause, settle_all};
 use ot_steps::write_explained;
 use ot_words::{MOST_QUESTIONS, SETTLING_QUESTIONS};
 use plain_list::List;
@@ -61,21 +64,36 @@ fn unsettled_by(cause: SpentCause) -> Unsettled
     ensures { result ≡ unsettled_by cause }
 {
     match cause {
-        SpentCause::Budget => Unsettled::Questions,
-        SpentCause::Bytes => Unsettled::Bytes,
+        SpentCause::Budget => Unsettled::Questions(SETTLING_QUESTIONS),
+        SpentCause::Bytes => Unsettled::Bytes(MAX_BYTES as u64),
         SpentCause::NoWay => Unsettled::NoProof,
     }
 }
 
-// The reply that explains what settling came to.
+// The reply that says why nothing is said, and how far the search came.
+fn undecided(cause: SpentCause, asked: Questions, written: usize) -> Reply
+    ensures { result ≡ Explained (Open most_questions (attempt_of cause asked written)) }
+{
+    let attempt = Attempt {
+        cause: unsettled_by(cause),
+        asked: asked.asked,
+        again: asked.again,
+        bytes: written as u64,
+    };
+    Reply::Explained(Explanation::Open(MOST_QUESTIONS, attempt))
+}
+
+// The reply that explains what settling came to, by so many questions and with so many bytes written.
 fn explain_settled(
     alloc: Global,
     rules: &Rules,
     level: Level,
     settled: Settled,
+    asked: Questions,
+    written: usize,
 ) -> Result<Reply, NoMemory>
     requires { IsSettled (function_of rules.now) level settled }
-    ensures { IfOk result (ExplainsSettled (function_of rules.now) level settled) }
+    ensures { IfOk result (ExplainsSettled (function_of rules.now) level asked written settled) }
 {
     match settled {
         Settled::Yes(bytes) => {
@@ -83,7 +101,7 @@ fn explain_settled(
             Ok(Reply::Explained(Explanation::Holds(level, basis)))
         }
         Settled::No { ob, answers, why } => breaks(alloc, rules, ob, &answers, why),
-        Settled::Spent(cause) => Ok(Reply::Explained(Explanation::Open(unsettled_by(cause)))),
+        Settled::Spent(cause) => Ok(undecided(cause, asked, written)),
     }
 }
 
@@ -92,7 +110,9 @@ fn settled(alloc: Global, rules: &Rules, level: Level) -> Result<Reply, NoMemory
     ensures { IfOk result (IsReplyToUnproved (function_of rules.now) level) }
 {
     let settlement = settle_all(alloc, rules, level, SETTLING_QUESTIONS)?;
-    explain_settled(alloc, rules, level, settlement.settled)
+    let asked = settlement.asked;
+    let written = settlement.written;
+    explain_settled(alloc, rules, level, settlement.settled, asked, written)
 }
 
 // The reply to a function.

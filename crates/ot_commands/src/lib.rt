@@ -25,6 +25,7 @@ pub mod hub;
 pub mod integrate;
 pub mod least;
 pub mod load;
+pub mod mend;
 mod one_file;
 pub mod prove;
 pub mod replay;

@@ -14,8 +14,8 @@ use ot_replies::Reply;
 use plain_list::List;
 use std::alloc::Global;
 
-// Whether no function of the head has the level.
-fn has_none(level: Level, head: &Head) -> bool
+/// Whether no function of the head has the level.
+pub(crate) fn has_none(level: Level, head: &Head) -> bool
     ensures { result ≡ has_none level head.now }
 {
     match level {

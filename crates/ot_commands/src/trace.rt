@@ -1,5 +1,5 @@
 //! `trace [--session | --hub] FUNCTION FILE`: what happens in a case, a session or a hub, step by step.
-ghost use Rattle.std.specs.Prelude.{◌≡◌, ◌≤◌, ℕ, List, [], length, Ok, IfOk, IsErrOf, OnOk};
+ghost use Rattle.std.specs.Prelude.{◌≡◌, ◌≤◌, ◌++◌, [], length, Ok, IfOk, IsErrOf, OnOk};
 ghost use Rattle.case_json.specs.Hubs.{IsHubPlayable};
 ghost use Rattle.case_json.specs.Scripts.{IsPlayable};
 ghost use Rattle.case_json.specs.Tests.{IsReadyTrial};
@@ -8,14 +8,14 @@ ghost use Rattle.ot_outside.specs.Faults.{Rose};
 ghost use Rattle.ot_outside.specs.Unchanged.{Unchanged};
 ghost use Rattle.ot_replies.specs.Limits.{limit_of};
 ghost use Rattle.ot_replies.specs.declared.reply.FileKind.TheVariants as files;
-ghost use Rattle.ot_replies.specs.declared.reply.Reply.TheVariants.{CaseRefused, EventRefused};
+ghost use Rattle.ot_replies.specs.declared.reply.Reply.TheVariants.{CaseRefused};
 ghost use Rattle.ot_words.specs.Commands.{Trace};
 ghost use Rattle.ot_words.specs.declared.command.TraceKind.TheVariants as traces;
 ghost use Rattle.ot_commands.specs.Given.{IsReplyOfGiven};
 ghost use Rattle.ot_commands.specs.Load.{GoesOnBehind};
 ghost use Rattle.ot_commands.specs.Replies.{IsReplyTo};
-ghost use Rattle.ot_commands.specs.Trace.{IsTracedAs, SaysWhere, TellsCase, TellsHubScript, TellsSession, cause_of};
-ghost use Rattle.ot_commands.specs.Trace.{layout_of, traced};
+ghost use Rattle.ot_commands.specs.Trace.{IsTracedAs, TellsCase, TellsHubScript, TellsSession, cause_of, layout_of};
+ghost use Rattle.ot_commands.specs.Trace.{placed_cause, placed_fault, traced, where_lines};
 
 use crate::case_file::{ByCase, CaseCommand};
 use crate::hub::run_script as run_hub;
@@ -24,9 +24,8 @@ use crate::load::Stop;
 use crate::replay::run_script;
 use crate::two_files::reply_to_both;
 use case_json::{
-    CaseError, CaseFault, EventCause, FaultPath, HubScript, Layout, LineColumn, Script, Trial,
-    event_path, fault_path, hub_read, line_column, script_read, trial_read, value_offset,
-    write_cause, write_fault,
+    CaseError, CaseFault, EventCause, FaultPath, HubScript, Layout, Script, Trial, event_path,
+    fault_path, hub_read, line_column_of, script_read, trial_read, write_cause, write_fault,
 };
 use fn_rules::Rules;
 use ot_model::NoMemory;
@@ -61,68 +60,57 @@ fn cause_of(why: EventFault) -> EventCause
     }
 }
 
-// The line and the column of the value at a path, where it is found.
-fn place_of(bytes: &[u8], path: &FaultPath) -> Option<LineColumn> {
-    let offset = value_offset(bytes, path)?;
-    Some(line_column(bytes, offset))
-}
-
-// Writes where the fault of a file is.
-fn write_fault_at(
+// Writes where a fault of these bytes is that has this path.
+fn write_placed_fault(
     alloc: Global,
-    events: TraceKind,
     bytes: &[u8],
+    path: Option<FaultPath>,
     fault: &CaseFault,
     out: &mut Vec<u8>,
 ) -> Result<(), NoMemory>
-    requires { out.old.items ≡ [] }
-    ensures { OnOk result (SaysWhere events bytes.now (CaseRefused fault.now) out.new.items) }
+    ensures { OnOk result (out.new.items ≡ out.old.items ++ placed_fault bytes.now path fault.now) }
 {
-    let path = fault_path(alloc, layout_of(events), bytes, fault)?;
     let at = match &path {
-        Some(path) => place_of(bytes, path),
+        Some(path) => line_column_of(bytes, path),
         None => None,
     };
     write_fault(alloc, path, at, fault, out)
 }
 
 // Writes where the event is that is refused.
-fn write_event_at(
+fn write_placed_cause(
     alloc: Global,
     bytes: &[u8],
-    number: u32,
-    why: EventFault,
+    path: FaultPath,
+    cause: EventCause,
     out: &mut Vec<u8>,
 ) -> Result<(), NoMemory>
-    requires { out.old.items ≡ [] }
-    ensures { OnOk result ((events : TraceKind) → SaysWhere events bytes.now (EventRefused number why) out.new.items) }
+    ensures { OnOk result (out.new.items ≡ out.old.items ++ placed_cause bytes.now path cause) }
 {
-    let cause = cause_of(why);
-    let path = event_path(number, cause);
-    let at = place_of(bytes, &path);
+    let at = line_column_of(bytes, &path);
     write_cause(alloc, path, at, cause, out)
 }
 
-// Where the fault of a reply is, if it tells one.
-fn where_it_is(
+// Writes where the fault of a reply is, if it tells one.
+fn write_where(
     alloc: Global,
     events: TraceKind,
     bytes: &[u8],
     end: &Reply,
-) -> Result<Vec<u8>, NoMemory>
-    ensures { IfOk result (λ lines. SaysWhere events bytes.now end.now lines.items) }
+    out: &mut Vec<u8>,
+) -> Result<(), NoMemory>
+    ensures { OnOk result (out.new.items ≡ out.old.items ++ where_lines events bytes.now end.now) }
 {
-    let mut lines = Vec::new(alloc);
     match end {
         Reply::CaseRefused(fault) => {
-            write_fault_at(alloc, events, bytes, fault, &mut lines)?;
-            Ok(lines)
+            let path = fault_path(alloc, layout_of(events), bytes, fault)?;
+            write_placed_fault(alloc, bytes, path, fault, out)
         }
         Reply::EventRefused(number, why) => {
-            write_event_at(alloc, bytes, *number, *why, &mut lines)?;
-            Ok(lines)
+            let cause = cause_of(*why);
+            write_placed_cause(alloc, bytes, event_path(*number, cause), cause, out)
         }
-        _ => Ok(lines),
+        _ => Ok(()),
     }
 }
 
@@ -134,10 +122,10 @@ fn traced(
     told: Vec<u8>,
     end: Reply,
 ) -> Result<Reply, NoMemory>
-    ensures { IfOk result (λ r. (lines : List ℕ) × SaysWhere events bytes.now end lines
-        × (r ≡ traced told.items end lines)) }
+    ensures { IfOk result (λ r. r ≡ traced events bytes.now told.items end) }
 {
-    let lines = where_it_is(alloc, events, bytes, &end)?;
+    let mut lines = Vec::new(alloc);
+    write_where(alloc, events, bytes, &end, &mut lines)?;
     let status = status(&end);
     let answer = text(alloc, end)?;
     let mut whole = told;

@@ -1,12 +1,11 @@
 -- The blocks after an edit are one for each declared pair, so the limits alone decide whether they make a function.
-use Rattle.std.proofs.Common.{◌≡◌, Bool, true, false, ◌&&◌, List, [], ◌∷◌, if◌then◌else◌, refl, ap, sym, ◌∙◌, IsTrue}
+use Rattle.std.proofs.Common.{◌≡◌, Bool, true, false, ◌&&◌, List, [], ◌∷◌, if◌then◌else◌, refl, ap, ◌∙◌}
 use Rattle.std.specs.List.{flat_map}
-use Rattle.std.proofs.lemmas.Bool.{and_parts}
 use Rattle.ot_model.specs.declared.op.Kind.{Kind}
 use Rattle.ot_model.specs.declared.op.Mode.{Mode}
 use Rattle.ot_model.specs.Kinds.{kind_pairs}
 use Rattle.fn_rules.specs.declared.function.Head.{Head}
-use Rattle.fn_rules.specs.Building.{PairCases, function_from, has_own_blocks, is_buildable}
+use Rattle.fn_rules.specs.Building.{PairCases, has_own_blocks, is_buildable}
 use Rattle.fn_rules.specs.Functions.{Function, GuardedCase, cases_of, is_declared_of}
 use Rattle.fn_rules.specs.Shipped.{block}
 use Rattle.fn_rules.specs.Validity.{is_valid}

@@ -1,12 +1,12 @@
 -- The definitions, computed on functions and edits by hand.
-use Rattle.std.proofs.Common.{◌≡◌, ℕ, pos, negsuc, true, false, List, [], ◌∷◌, length, refl}
+use Rattle.std.proofs.Common.{◌≡◌, pos, true, [], ◌∷◌, length, refl}
 use Rattle.ot_model.specs.declared.op.Kind.TheVariants.{Ins, Del}
 use Rattle.fn_rules.specs.declared.guard.Cmp.TheVariants.{Lt, Le, Eq}
 use Rattle.fn_rules.specs.declared.guard.Side.TheVariants.{First, Second}
 use Rattle.fn_rules.specs.declared.guard.Sort.TheVariants.{Pos, Site}
 use Rattle.fn_rules.specs.declared.function.Res.TheVariants as results
-use Rattle.fn_rules.specs.Formulas.{Always, Compare, And, Or}
-use Rattle.fn_rules.specs.Functions.{GuardedCase, cases_of}
+use Rattle.fn_rules.specs.Formulas.{Always, Compare, And}
+use Rattle.fn_rules.specs.Functions.{cases_of}
 use Rattle.fn_rules.specs.Shipped.{marks, moved_down, offby, p1_plus, p1_to_p2, p2_to_p1, s1_lt_s2, smaller_stays, ties}
 use Rattle.fn_rules.specs.Shipped.{when}
 use Rattle.ot_mend.specs.declared.change.Change.TheVariants.{NewAtom, NewResult, TakeOut, Exchange, PutIn}
@@ -15,7 +15,7 @@ use Rattle.ot_mend.specs.declared.edit.Edit.TheVariants.{InBlock, AssumeSites}
 use Rattle.ot_mend.specs.Edits.{cases_after, edited_of, with_atom}
 use Rattle.ot_mend.specs.Members.{layer}
 use Rattle.ot_mend.specs.Offers.{atom_changes, edits_of, plain_atom}
-use Rattle.ot_mend.specs.Ranks.{comes_before, rank_of, weight_of}
+use Rattle.ot_mend.specs.Ranks.{block_size, comes_before, rank_of, weight_of}
 
 -- atoms are counted from left to right
 second_atom : with_atom (plain_atom Site Second Lt) 1 (And (p1_to_p2 Eq (pos 0)) s1_lt_s2)
@@ -74,6 +74,10 @@ against = refl
 
 loses_what_was_done : weight_of (InBlock Ins Del (NewResult 0 (p1_plus (pos 0)) results.Nop)) ≡ 7
 loses_what_was_done = refl
+
+-- `true` counts as an atom does: a case is no smaller for it
+of_true : block_size (when Always results.Nop ∷ []) ≡ block_size (when (p1_to_p2 Eq (pos 0)) results.Nop ∷ [])
+of_true = refl
 
 -- an assumption comes behind an edit that makes the function larger
 assumes_less : comes_before

@@ -1,6 +1,6 @@
 -- The order of the functions that edits lead to: which of them comes before which.
 use Rattle.std.specs.Prelude.{ℕ, ◌+◌, ◌-◌, ◌^◌, pos, Bool, true, false, not, ◌&&◌, ◌||◌, if◌then◌else◌, nat_eq, nat_lt}
-use Rattle.std.specs.Prelude.{min, List, [], ◌∷◌, length, count_by}
+use Rattle.std.specs.Prelude.{min, List, length, count_by}
 use Rattle.std.specs.List.{sum_by}
 use Rattle.ot_model.specs.declared.op.Kind.{Kind}
 use Rattle.ot_model.specs.Kinds.{is_same_kind, kind_pairs}
@@ -11,9 +11,9 @@ use Rattle.fn_rules.specs.declared.guard.Side.{Side}
 use Rattle.fn_rules.specs.declared.guard.Side.TheVariants.{First, Second}
 use Rattle.fn_rules.specs.declared.function.Res.{Res}
 use Rattle.fn_rules.specs.declared.function.Res.TheVariants as results
-use Rattle.fn_rules.specs.Atoms.{block_atoms}
 use Rattle.fn_rules.specs.Functions.{Function, GuardedCase, cases_of, is_declared_of}
 use Rattle.fn_rules.specs.Shipped.{p1_plus}
+use Rattle.fn_rules.specs.Validity.{atoms_of}
 use Rattle.ot_mend.specs.declared.change.Change.{Change}
 use Rattle.ot_mend.specs.declared.change.Change.TheVariants.{NewAtom, NewResult, TakeOut, Exchange, PutIn}
 use Rattle.ot_mend.specs.declared.change.NewGuard.{NewGuard}
@@ -32,9 +32,9 @@ is_assumption (InBlock k l change) = false
 is_assumption AssumeSites = true
 is_assumption AssumeChars = true
 
--- the cases of a block and their atoms
+-- the cases of a block and their atoms, of which `true` is one here
 abbrev pub block_size : List GuardedCase → ℕ
-block_size cs = length cs + block_atoms cs
+block_size cs = length cs + sum_by (λ c. atoms_of c.guard) cs
 
 -- those of the block of a pair of kinds, where the function is for both
 abbrev pub pair_size : Function → Kind × Kind → ℕ

@@ -1,10 +1,10 @@
 //! The order of the functions that edits lead to.
 ghost use Rattle.std.specs.Prelude.{◌≡◌, ◌≤◌, ◌∷◌, [], count_by, map};
 ghost use Rattle.std.specs.List.{sum_by};
-ghost use Rattle.fn_rules.specs.Atoms.{guard_atoms};
 ghost use Rattle.fn_rules.specs.Formulas.{formula_of};
 ghost use Rattle.fn_rules.specs.Functions.{case_of};
 ghost use Rattle.fn_rules.specs.Rules.{function_of};
+ghost use Rattle.fn_rules.specs.Validity.{atoms_of};
 ghost use Rattle.ot_mend.specs.Offers.{is_same_side};
 ghost use Rattle.ot_mend.specs.Ranks.{block_size, change_weight, comes_before, counted, function_size};
 ghost use Rattle.ot_mend.specs.Ranks.{is_against_convention, is_assumption, is_nop, is_of_higher, is_of_lower};
@@ -30,11 +30,10 @@ pub struct Rank {
 }
 
 fn count_atoms(guard: &Guard) -> u64
-    ensures { result ≡ counted (guard_atoms (formula_of guard.now)) }
+    ensures { result ≡ counted (atoms_of (formula_of guard.now)) }
 {
     match guard {
-        Guard::True => 0,
-        Guard::Atom(_) => 1,
+        Guard::True | Guard::Atom(_) => 1,
         Guard::And(g, h) | Guard::Or(g, h) => count_atoms(g).saturating_add(count_atoms(h)),
         Guard::Not(g) => count_atoms(g),
     }

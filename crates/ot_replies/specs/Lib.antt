@@ -1,6 +1,7 @@
 pub mod Limits
 pub mod FaultTexts
 pub mod DocumentTexts
+pub mod MendTexts
 pub mod OrderTexts
 pub mod CounterTexts
 pub mod SessionTexts

@@ -11,7 +11,7 @@ use Rattle.ot_replies.specs.declared.reply.Reply.TheVariants.{CaseRefused, Integ
 use Rattle.ot_replies.specs.declared.reply.Reply.TheVariants.{StuckAt, Replayed, Served, Audited, Compared, Drilled}
 use Rattle.ot_replies.specs.declared.reply.Reply.TheVariants.{Reversed, Unlike, Unbroken, Shortest, Certified}
 use Rattle.ot_replies.specs.declared.reply.Reply.TheVariants.{BoundTooLong, AtLeast, Confirmed, ProofRefused, Templated}
-use Rattle.ot_replies.specs.declared.reply.Reply.TheVariants.{NoTemplate, Explained, Traced}
+use Rattle.ot_replies.specs.declared.reply.Reply.TheVariants.{NoTemplate, Explained, Mended, NotMended, Traced}
 use Rattle.ot_replies.specs.AuditTexts.{audit_status, audit_text, same_status, same_text, spent_text}
 use Rattle.ot_replies.specs.BoundTexts.{at_least_text, bound_limit_text, shortest_text, unbroken_text}
 use Rattle.ot_replies.specs.FaultTexts.{text_fault_text, case_fault_text, proof_refusal_text, refusal_text}
@@ -21,6 +21,7 @@ use Rattle.ot_replies.specs.LevelTexts.{accepted_text, confirmed_text}
 use Rattle.ot_replies.specs.DrillTexts.{drill_text}
 use Rattle.ot_replies.specs.ExplainTexts.{explanation_status, explanation_text}
 use Rattle.ot_replies.specs.HubTexts.{hub_text}
+use Rattle.ot_replies.specs.MendTexts.{not_mended_text}
 use Rattle.ot_replies.specs.ReversalTexts.{reversal_status, reversal_text, unlike_text}
 use Rattle.ot_replies.specs.SessionTexts.{event_fault_text, sites_text, stuck_text}
 
@@ -60,6 +61,8 @@ status_of (Confirmed level) = 0
 status_of (ProofRefused offset why) = 2
 status_of (Templated bytes) = 0
 status_of NoTemplate = 1
+status_of (Mended bytes) = 0
+status_of (NotMended most) = 1
 status_of (Explained explanation) = explanation_status explanation
 status_of (Traced bytes status) = traced_status status
 status_of (StuckAt i) = 1
@@ -105,6 +108,8 @@ text_of (Confirmed level) = confirmed_text level
 text_of (ProofRefused offset why) = proof_refusal_text offset why
 text_of (Templated bytes) = bytes
 text_of NoTemplate = no_template_text
+text_of (Mended bytes) = bytes
+text_of (NotMended most) = not_mended_text most
 text_of (Explained explanation) = explanation_text explanation
 text_of (Traced bytes status) = bytes
 text_of (StuckAt i) = stuck_text i

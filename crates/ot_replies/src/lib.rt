@@ -6,7 +6,7 @@ mod texts;
 
 pub use ot_session::SiteEnd;
 pub use reply::{
-    ClientEnd, Drilled, EventFault, Explanation, FileKind, Ground, HubEnd, Reply, Subject,
+    Attempt, ClientEnd, Drilled, EventFault, Explanation, FileKind, Ground, HubEnd, Reply, Subject,
     Unsettled,
 };
 pub use texts::{status, text};

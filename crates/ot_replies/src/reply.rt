@@ -101,14 +101,30 @@ pub enum Ground {
 /// Why `settle` said nothing of a function.
 #[derive(Clone, Copy)]
 pub enum Unsettled {
-    /// All questions were asked that it may ask.
-    Questions,
+    /// All questions were asked that it may ask: so many.
+    Questions(u64),
 
-    /// The proof has more bytes than one may have.
-    Bytes,
+    /// The proof has more bytes than one may have: so many.
+    Bytes(u64),
 
     /// It found no proof.
     NoProof,
+}
+
+/// What a search of `settle` came to that said nothing of a function.
+#[derive(Clone, Copy)]
+pub struct Attempt {
+    /// Why it said nothing.
+    pub cause: Unsettled,
+
+    /// How many questions it asked.
+    pub asked: u64,
+
+    /// How many were asked again to write what it had shown.
+    pub again: u64,
+
+    /// How many bytes of a proof were written.
+    pub bytes: u64,
 }
 
 /// Why a function has the properties of a level, or where it breaks one.
@@ -120,8 +136,9 @@ pub enum Explanation {
     /// It breaks one of them: where, and how; and what became of the operations, step by step.
     Breaks(Counter, List<u8>),
 
-    /// Its obligations ask more questions than `prove` may ask, and `settle` said nothing of it either.
-    Open(Unsettled),
+    /// Its obligations ask more questions than `prove` may ask, which is so many, and `settle` said nothing of it
+    /// either.
+    Open(u64, Attempt),
 
     /// The text is that of no function: its first fault, and what helps to mend it.
     Misread(TextFault, List<u8>),
@@ -240,6 +257,13 @@ pub enum Reply {
 
     /// No function of the head has both properties.
     NoTemplate,
+
+    /// The text of the function that the fewest edits lead to, with a comment for each of them.
+    Mended(List<u8>),
+
+    /// No function that so many edits lead to has the level; no transformation of a head that edits lead to has it
+    /// where there is no number.
+    NotMended(Option<u32>),
 
     /// What came of a workload.
     Drilled(Drilled),

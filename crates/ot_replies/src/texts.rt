@@ -15,6 +15,7 @@ mod explanations;
 mod faults;
 mod hubs;
 mod lines;
+mod mendings;
 mod orders;
 mod reversals;
 mod sessions;
@@ -31,6 +32,7 @@ use faults::{write_case_fault, write_proof_refusal, write_refusal, write_text_fa
 use fn_rules::Level;
 use hubs::write_hub;
 use lines::write_word_line;
+use mendings::write_not_mended;
 use orders::write_ends;
 use ot_model::NoMemory;
 use reversals::{reversal_status, write_reversal};
@@ -94,6 +96,8 @@ pub fn status(reply: &Reply) -> u8
         Reply::ProofRefused { .. } => 2,
         Reply::Templated(_) => 0,
         Reply::NoTemplate => 1,
+        Reply::Mended(_) => 0,
+        Reply::NotMended(_) => 1,
         Reply::Explained(explanation) => explanation_status(explanation),
         Reply::Traced(_, status) => traced_status(*status),
         Reply::StuckAt(_) => 1,
@@ -179,6 +183,8 @@ fn write_reply(alloc: Global, reply: &Reply, out: &mut Vec<u8>) -> Result<(), No
         Reply::ProofRefused { offset, why } => { write_proof_refusal(alloc, *offset, *why, out) }
         Reply::Templated(bytes) => append_bytes(bytes.as_slice(), out),
         Reply::NoTemplate => append_bytes(b"none tp2\n", out),
+        Reply::Mended(bytes) => append_bytes(bytes.as_slice(), out),
+        Reply::NotMended(most) => write_not_mended(alloc, *most, out),
         Reply::Drilled(drilled) => write_drilled(alloc, drilled, out),
         Reply::Explained(explanation) => write_explanation(alloc, explanation, out),
         Reply::Traced(bytes, _) => append_bytes(bytes.as_slice(), out),
@@ -204,6 +210,7 @@ pub fn text(alloc: Global, reply: Reply) -> Result<Vec<u8>, NoMemory>
         Reply::Proved(bytes) => Ok(bytes.into_vec()),
         Reply::Certified(bytes) => Ok(bytes.into_vec()),
         Reply::Templated(bytes) => Ok(bytes.into_vec()),
+        Reply::Mended(bytes) => Ok(bytes.into_vec()),
         Reply::Traced(bytes, _) => Ok(bytes.into_vec()),
         other => written(alloc, &other),
     }

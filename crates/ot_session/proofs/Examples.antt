@@ -1,9 +1,10 @@
--- What is in the way of forms, on small lists.
-use Rattle.std.proofs.Common.{◌≡◌, [], ◌∷◌, Some, None, refl}
+-- What is in the way of forms, and what led to them, on small lists.
+use Rattle.std.proofs.Common.{◌≡◌, true, false, [], ◌∷◌, Some, None, refl}
 use Rattle.fn_rules.specs.Functions.{Function}
 use Rattle.ot_causal.specs.Past.{Past}
-use Rattle.ot_causal.specs.Forms.{form}
+use Rattle.ot_causal.specs.Forms.{form, form_within}
 use Rattle.ot_causal.specs.Counting.{name_of, sought_within, sought, counted}
+use Rattle.ot_session.specs.FormPairs.{form_pairs, older_than}
 use Rattle.ot_session.specs.Seeking.{Missing, Exhausted, first_obstacle, count_behind}
 
 module _ (f : Function) (past : Past) where
@@ -29,3 +30,18 @@ module _ (f : Function) (past : Past) where
   nothing_to_count : count_behind f past 7 [] 3 ≡ 7
   unfolding counted sought sought_within
   nothing_to_count = refl
+
+  -- an operation was carried over one that is not before it
+  over_one_operation : past.before 0 1 ≡ false
+      → form_pairs f past 1 (0 ∷ [])
+      ≡ record { form = past.operation 1; number = 0; against = past.operation 0 } ∷ []
+  unfolding form form_within
+  over_one_operation apart = rw apart refl
+
+  -- and over none that is
+  over_none : past.before 0 1 ≡ true → form_pairs f past 1 (0 ∷ []) ≡ []
+  over_none before = rw before refl
+
+  -- what was integrated before an operation
+  older_members : older_than 1 (2 ∷ 1 ∷ 0 ∷ []) ≡ 0 ∷ []
+  older_members = refl

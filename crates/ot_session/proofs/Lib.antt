@@ -6,6 +6,7 @@ pub mod Clocks
 pub mod Courses
 pub mod Examples
 pub mod Extending
+pub mod FormPairs
 pub mod Integrating
 pub mod Lists
 pub mod Making

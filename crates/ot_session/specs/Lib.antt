@@ -2,6 +2,7 @@ pub mod Past
 pub mod Lists
 pub mod Entries
 pub mod Seeking
+pub mod FormPairs
 pub mod Sites
 pub mod Taking
 pub mod Views

@@ -161,14 +161,19 @@ fn count_one(counted: &mut u64) -> Result<(), FormError>
 }
 
 /// The newest member that is not before the operation.
-fn newest_open(made: &[Made], number: u32, list: &[u32]) -> Option<u32>
+pub(crate) fn newest_open(made: &[Made], number: u32, list: &[u32]) -> Option<u32>
     ensures { result ≡ newest_open (past_of made.now) number list.now }
 {
     list.iter().copied().find(|x| !is_before(made, *x, number))
 }
 
 /// A closed list without a member.
-fn without(alloc: Global, made: &[Made], list: &[u32], member: u32) -> Result<Vec<u32>, AllocError>
+pub(crate) fn without(
+    alloc: Global,
+    made: &[Made],
+    list: &[u32],
+    member: u32,
+) -> Result<Vec<u32>, AllocError>
     requires { ∥ IsClosed (past_of made.now) list.now ∥₁ }
     ensures { IfOk result (λ rest. rest.items ≡ without member list.now) }
 {
@@ -183,7 +188,7 @@ fn others(alloc: Global, list: &[u32], member: u32) -> Result<Vec<u32>, AllocErr
 }
 
 /// The counts of a list without a member that the site made.
-fn with_one_less(counts: [u32; MAX_SITES], site: u32) -> [u32; MAX_SITES]
+pub(crate) fn with_one_less(counts: [u32; MAX_SITES], site: u32) -> [u32; MAX_SITES]
     requires site { (1 ≤ site) × (site ≤ MAX_SITES) }
     requires some { 0 < slice_index counts (site - 1) }
     ensures { result ≡ slice_set counts (site - 1) (slice_index counts (site - 1) - 1) }

@@ -7,8 +7,9 @@
 //!
 //! The layers above rely on these clauses: `make` answers exactly as its tests say, in their order; `take` does what
 //! `HasTaken` says of its answer; what each site has integrated is a closed list that leads from the first document to
-//! the site's own; where the function has both properties no operation is stuck; and where the most forms that the
-//! sites can count are no more than are allowed, the count is never spent.
+//! the site's own; where the function has both properties no operation is stuck; where the most forms that the
+//! sites can count are no more than are allowed, the count is never spent; and `form_pairs` tells the transformations
+//! that led to what a site executed of an operation.
 #![tactic(auto)]
 
 mod answer;
@@ -17,6 +18,7 @@ mod form;
 mod laws;
 mod limits;
 mod made;
+mod pairs;
 mod session;
 mod site;
 mod steps;
@@ -27,4 +29,5 @@ pub use answer::{Make, Take, Took};
 pub use ending::SiteEnd;
 pub use laws::{makes_have_one_outcome, sessions_begin_as_one, takes_have_one_answer};
 pub use limits::{MAX_FORMS, MAX_MADE, MAX_SITES};
+pub use pairs::FormPair;
 pub use session::Session;

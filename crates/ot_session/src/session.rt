@@ -13,6 +13,7 @@ use crate::answer::{Make, Take, Took};
 use crate::ending::SiteEnd;
 use crate::limits::{MAX_FORMS, MAX_MADE, MAX_SITES};
 use crate::made::{Made, is_before};
+use crate::pairs::{FormPair, pairs_at};
 use crate::site::Site;
 use crate::steps::{execute_at, fresh_sites, has_declared_kind, is_made_at};
 use crate::taking::take_at;
@@ -57,6 +58,8 @@ impl Session {
     ghost use Rattle.ot_causal.specs.Forms.{state};
     ghost use Rattle.ot_causal.specs.Convergence.{HasOneCourse};
     ghost use Rattle.fn_rules.specs.Properties.{HasTp1, HasTp2};
+    ghost use Rattle.std.specs.List.{All};
+    ghost use Rattle.ot_session.specs.FormPairs.{integrated_pairs, CanMove};
     ghost use Rattle.ot_session.specs.Making.{HasRefused};
     ghost use Rattle.ot_session.specs.Views.{view_of, data_in, closed_session, IsBegun, HasMade, HasTaken};
     ghost use Rattle.ot_session.specs.declared.answer.Take.TheVariants as takes;
@@ -104,6 +107,37 @@ impl Session {
         ensures closed { ∥ IsClosed (data_in (view_of self.now)).past (reverse result.now) ∥₁ }
     {
         &self.sites[site as usize - 1].seen
+    }
+
+    /// The function that operations are transformed with.
+    pub fn rules(&self) -> &Rules
+        ensures { function_of result.now ≡ (view_of self.now).function }
+    {
+        &self.rules
+    }
+
+    /// The transformations that led to what a site executed of an operation, the first one first; none where it has not
+    /// integrated it. Nothing is counted.
+    pub fn form_pairs(&self, site: u32, number: u32) -> Result<List<FormPair>, NoMemory>
+        requires open { (view_of self.now).is_open ≡ true }
+        requires site { IsSite (data_in (view_of self.now)).sites site }
+        ensures pairs { IfOk result (λ pairs. pairs ≡ integrated_pairs (view_of self.now).function
+            (data_in (view_of self.now)).past ((data_in (view_of self.now)).seen site) number) }
+
+        // Each of them can be made again.
+        ensures usable { IfOk result (All (CanMove (view_of self.now).function)) }
+    {
+        members_were_made();
+        open_members_may_be_taken_out();
+        documents_grow_by_one_cell_at_most();
+        let alloc = *self.made.allocator();
+        pairs_at(
+            alloc,
+            &self.rules,
+            &self.made,
+            &self.sites[site as usize - 1],
+            number,
+        )
     }
 
     /// Whether the first operation is before the second: the site of the second had integrated it when the second

@@ -204,7 +204,7 @@ fn integrate(
 }
 
 /// A list turned round.
-fn newest_first(alloc: Global, seen: &[u32]) -> Result<Vec<u32>, AllocError>
+pub(crate) fn newest_first(alloc: Global, seen: &[u32]) -> Result<Vec<u32>, AllocError>
     ensures { IfOk result (λ list. list.items ≡ reverse seen.now) }
 {
     seen.iter().rev().copied().collect(alloc)

@@ -1,22 +1,19 @@
 -- The definitions on worked examples.
-use Rattle.std.specs.Prelude.{◌≡◌, ℕ, pos, List, [], ◌∷◌, ◌++◌, Some, None, codes, refl, replicate}
+use Rattle.std.specs.Prelude.{◌≡◌, ℕ, pos, List, [], ◌∷◌, ◌++◌, Some, codes, refl, replicate}
 use Rattle.std.specs.Fmt.{digits}
 use lib.Utf8.{encode}
 use Rattle.serde_json.proofs.OnLiterals.{serde_json_on_literals}
-use Rattle.ot_model.specs.declared.op.Kind.TheVariants as kinds
-use Rattle.ot_model.specs.declared.op.Op.TheVariants.{Ins, Del, Nop}
+use Rattle.ot_model.specs.declared.op.Op.TheVariants.{Ins, Del}
 use Rattle.ot_model.specs.declared.cell.Cell.{Cell}
 use Rattle.ot_model.specs.Cells.{live_cell, dead_cell}
 use Rattle.fn_rules.specs.declared.function.Level.TheVariants.{Tp1, Tp2}
-use Rattle.fn_rules.specs.Shipped.{sites, offby, ties}
+use Rattle.fn_rules.specs.Shipped.{sites, offby}
 use Rattle.ot_counter.specs.declared.counter.WayResult.TheVariants.{Doc}
 use Rattle.ot_steps.specs.CaseLines.{case_line}
-use Rattle.ot_steps.specs.Differences.{difference_of}
 use Rattle.ot_steps.specs.ExplainedTexts.{shown_text}
 use Rattle.ot_steps.specs.ShortDocuments.{short_document}
-use Rattle.ot_steps.specs.Steps.{shown_ways}
+use Rattle.ot_ways.specs.Steps.{shown_ways}
 use Rattle.ot_steps.specs.StepTexts.{documents_line, one_end_line}
-use Rattle.ot_steps.specs.Taken.{taken_of}
 
 -- a line
 abbrev line : List ℕ → List ℕ
@@ -25,24 +22,6 @@ line text = text ++ 10 ∷ []
 -- cells `y`
 abbrev ys : ℕ → List Cell
 ys n = replicate n (live_cell 121)
-
--- the greater site moves at a tie, by the third case
-the_last_case : taken_of sites (Ins (pos 2) 97 9) (Ins (pos 2) 98 3)
-    ≡ Some (record { first = kinds.Ins; second = kinds.Ins; number = 2 })
-the_last_case = refl
-
--- both guards of `ties` are false at a tie, and no case is asked of nop
-no_case : taken_of ties (Ins (pos 2) 97 9) (Ins (pos 2) 98 3) ≡ None
-no_case = refl
-
-no_case_for_nop : taken_of sites (Ins (pos 2) 97 9) Nop ≡ None
-no_case_for_nop = refl
-
-differ_at_the_end : difference_of (live_cell 121 ∷ live_cell 97 ∷ []) (live_cell 121 ∷ []) ≡ Some 1
-differ_at_the_end = refl
-
-dead_and_live_differ : difference_of (live_cell 121 ∷ []) (dead_cell (live_cell 121) ∷ []) ≡ Some 0
-dead_and_live_differ = refl
 
 line_of_a_difference :
     documents_line (Doc (live_cell 121 ∷ live_cell 97 ∷ [])) (Doc (live_cell 121 ∷ []))

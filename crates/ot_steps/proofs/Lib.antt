@@ -1,6 +1,3 @@
-pub mod FirstCases
-pub mod SamePlaces
 pub mod CaseData
-pub mod Usable
 pub mod Repeated
 mod Examples

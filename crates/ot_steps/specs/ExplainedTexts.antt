@@ -4,9 +4,9 @@ use Rattle.ot_model.specs.declared.cell.Cell.{Cell}
 use Rattle.ot_model.specs.declared.op.Op.{Op}
 use Rattle.fn_rules.specs.declared.function.Level.{Level}
 use Rattle.fn_rules.specs.Functions.{Function}
-use Rattle.ot_steps.specs.declared.ways.BothWays.{BothWays}
+use Rattle.ot_ways.specs.declared.ways.BothWays.{BothWays}
 use Rattle.ot_steps.specs.CaseLines.{case_line}
-use Rattle.ot_steps.specs.Steps.{shown_ways}
+use Rattle.ot_ways.specs.Steps.{shown_ways}
 use Rattle.ot_steps.specs.StepTexts.{ways_text}
 
 -- both ways, if they are shown

@@ -1,11 +1,9 @@
-pub mod Taken
-pub mod Differences
-pub mod Steps
 pub mod Columns
 pub mod ShortDocuments
 pub mod StepTexts
 pub mod CaseLines
 pub mod ExplainedTexts
 pub use Rattle.fn_rules.specs.Rules
-pub use Rattle.fn_rules.specs.Transformation
 pub use Rattle.ot_counter.specs.Counters
+pub use Rattle.ot_ways.specs.Taken
+pub use Rattle.ot_ways.specs.Steps

@@ -7,7 +7,7 @@ use Rattle.ot_model.specs.declared.cell.Cell.{Cell}
 use Rattle.case_json.specs.DocText.{cell_text}
 use Rattle.ot_steps.specs.declared.runs.Run.{Run}
 use Rattle.ot_steps.specs.declared.runs.TheConstants.{LONG, AROUND}
-use Rattle.ot_steps.specs.Differences.{is_same_cell}
+use Rattle.ot_ways.specs.Differences.{is_same_cell}
 
 -- the runs of equal cells, of which the first began with `n` cells like `c`
 abbrev pub runs_from : Cell → ℕ → List Cell → List Run

@@ -15,17 +15,17 @@ use Rattle.ot_counter.specs.declared.counter.WayResult.{WayResult}
 use Rattle.ot_counter.specs.declared.counter.WayResult.TheVariants as results
 use Rattle.ot_steps.specs.declared.lines.Label.{Label}
 use Rattle.ot_steps.specs.declared.lines.Label.TheVariants.{Made, After, Both}
-use Rattle.ot_steps.specs.declared.one_step.Step.{Step}
-use Rattle.ot_steps.specs.declared.taken_case.Taken.{Taken}
-use Rattle.ot_steps.specs.declared.ways.BothWays.{BothWays}
-use Rattle.ot_steps.specs.declared.ways.BothWays.TheVariants.{Pair, Triple}
-use Rattle.ot_steps.specs.declared.ways.DocumentWay.{DocumentWay}
-use Rattle.ot_steps.specs.declared.ways.OperationWay.{OperationWay}
+use Rattle.ot_ways.specs.declared.one_step.Step.{Step}
+use Rattle.ot_ways.specs.declared.taken_case.Taken.{Taken}
+use Rattle.ot_ways.specs.declared.ways.BothWays.{BothWays}
+use Rattle.ot_ways.specs.declared.ways.BothWays.TheVariants.{Pair, Triple}
+use Rattle.ot_ways.specs.declared.ways.DocumentWay.{DocumentWay}
+use Rattle.ot_ways.specs.declared.ways.OperationWay.{OperationWay}
 use Rattle.ot_steps.specs.declared.columns.TheConstants.{LABEL, OPERATION, DOCUMENT}
 use Rattle.ot_steps.specs.Columns.{padded}
-use Rattle.ot_steps.specs.Differences.{difference_of}
+use Rattle.ot_ways.specs.Differences.{difference_of}
 use Rattle.ot_steps.specs.ShortDocuments.{one_cell_text, short_document}
-use Rattle.ot_steps.specs.Taken.{case_named}
+use Rattle.ot_ways.specs.Taken.{case_named}
 
 -- an operation without its site: its kind, its position, and its character as in the text of a document
 abbrev pub short_op : Op → List ℕ

@@ -7,9 +7,9 @@ ghost use Rattle.ot_steps.specs.ExplainedTexts.{explained_text, shown_text};
 use crate::NoMemory;
 use crate::case_line::write_case_line;
 use crate::lines::write_ways;
-use crate::ways::{BothWays, both_ways};
 use fn_rules::{Rules, functions_keep_forms};
 use ot_counter::Counter;
+use ot_ways::{BothWays, both_ways};
 use std::alloc::Global;
 
 // Writes both ways, if they are shown.

@@ -1,7 +1,7 @@
 //! The lines of both ways of a counterexample, and where they differ.
 ghost use Rattle.std.specs.Prelude.{◌≡◌, ◌++◌, Some, slice_get, codes, OnOk};
 ghost use Rattle.fn_rules.specs.Rules.{function_of};
-ghost use Rattle.ot_steps.specs.declared.ways.BothWays.TheVariants.{Pair, Triple};
+ghost use Rattle.ot_ways.specs.declared.ways.BothWays.TheVariants.{Pair, Triple};
 ghost use Rattle.ot_steps.specs.Columns.{padded};
 ghost use Rattle.ot_steps.specs.StepTexts.{both_line, cell_or_nothing, difference_line, document_way_text};
 ghost use Rattle.ot_steps.specs.StepTexts.{documents_line, executed_line, label_text, last_result, made_line};
@@ -10,14 +10,12 @@ ghost use Rattle.ot_steps.specs.StepTexts.{ways_text};
 
 use crate::NoMemory;
 use crate::columns::{DOCUMENT, LABEL, OPERATION, append_bytes, append_padded, append_text};
-use crate::differences::difference;
-use crate::one_step::Step;
 use crate::short_document::{write_cell, write_short_document};
 use crate::texts::{place_of, write_choice, write_end, write_form, write_short_op};
-use crate::ways::{BothWays, DocumentWay, OperationWay};
 use fn_rules::Rules;
 use ot_counter::WayResult;
 use ot_model::{Cell, Doc, Op};
+use ot_ways::{BothWays, DocumentWay, OperationWay, Step, difference};
 use std::alloc::Global;
 
 /// What a line is about.

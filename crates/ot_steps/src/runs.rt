@@ -4,8 +4,8 @@ ghost use Rattle.ot_steps.specs.ShortDocuments as documents;
 ghost use Rattle.ot_steps.specs.ShortDocuments.{runs_from};
 
 use crate::NoMemory;
-use crate::differences::is_same_cell;
 use ot_model::Cell;
+use ot_ways::is_same_cell;
 use std::alloc::Global;
 
 /// The least number of equal cells in a row that are written as one and their count.

@@ -5,19 +5,18 @@ ghost use Rattle.ot_model.specs.Operations.{at_of};
 ghost use Rattle.fn_rules.specs.Rules.{function_of};
 ghost use Rattle.cert_text.specs.Spelling.{kind_text};
 ghost use Rattle.case_json.specs.DocText.{char_text};
-ghost use Rattle.ot_steps.specs.Taken.{case_named};
+ghost use Rattle.ot_ways.specs.Taken.{case_named};
 ghost use Rattle.ot_steps.specs.StepTexts.{choice_text, end_text, named_case_text, result_text, short_op, taken_text};
 
 use crate::NoMemory;
 use crate::columns::{append_bytes, append_text};
-use crate::one_step::Step;
 use crate::short_document::write_short_document;
-use crate::taken_case::Taken;
 use case_json::char_write;
 use fn_grammar::case_text;
 use fn_rules::{Rules, rules_are_valid, undeclared_pairs_have_no_cases};
 use ot_counter::WayResult;
 use ot_model::{Kind, Op};
+use ot_ways::{Step, Taken};
 use std::alloc::Global;
 
 // The word of a kind.

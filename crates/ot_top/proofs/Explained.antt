@@ -1,6 +1,6 @@
 -- What the statuses of `explain` show, from its replies.
-use Rattle.std.proofs.Common.{◌⊎◌, ◌≡◌, ◌≢◌, ℕ, ◌≤◌, List, length, Option, Some, Result, Ok, IsTrue, refl, sym, ap, ◌∙◌}
-use Rattle.std.proofs.Common.{subst, inl, inr, arith}
+use Rattle.std.proofs.Common.{◌⊎◌, ◌≡◌, ◌≢◌, ℕ, ◌≤◌, Bool, List, length, Option, Some, Result, Ok, IsTrue, refl, sym}
+use Rattle.std.proofs.Common.{ap, ◌∙◌, subst, inl, inr, arith}
 use Rattle.fn_tokens.specs.declared.fault.TextFault.{TextFault}
 use Rattle.fn_rules.specs.declared.function.Level.{Level}
 use Rattle.fn_rules.specs.declared.function.ObName.{ObName}
@@ -15,8 +15,10 @@ use Rattle.ot_decide.specs.declared.verdict.Verdict.TheVariants as verdicts
 use Rattle.ot_decide.specs.Verdicts.{IsDecidedAs}
 use Rattle.ot_settle.specs.declared.settled.Settled.{Settled}
 use Rattle.ot_settle.specs.declared.settled.Settled.TheVariants as outcomes
-use Rattle.ot_settle.specs.Outcomes.{IsSettled}
+use Rattle.ot_settle.specs.Outcomes.{HasCause, IsSettled}
+use Rattle.plan_proofs.specs.declared.ended.Questions.{Questions}
 use Rattle.ot_counter.specs.declared.counter.Counter.{Counter}
+use Rattle.ot_replies.specs.declared.reply.Attempt.{Attempt}
 use Rattle.ot_replies.specs.declared.reply.Explanation.TheVariants.{Holds, Breaks, Open}
 use Rattle.ot_replies.specs.declared.reply.FileKind.TheVariants as files
 use Rattle.ot_replies.specs.declared.reply.Ground.{Ground}
@@ -26,9 +28,9 @@ use Rattle.ot_replies.specs.declared.reply.Reply.TheVariants.{Broken, Explained}
 use Rattle.ot_replies.specs.Limits.{limit_of}
 use Rattle.ot_replies.specs.Texts.{status_of, text_of}
 use Rattle.ot_words.specs.Commands.{Explain}
-use Rattle.ot_words.specs.Words.{most_questions}
-use Rattle.ot_commands.specs.Explain.{ExplainsCounter, ExplainsSettled, ExplainsVerdict, IsReplyToExplained}
-use Rattle.ot_commands.specs.Explain.{IsReplyToRead, IsReplyToText, steps_of, unsettled_by}
+use Rattle.ot_words.specs.Words.{most_questions, settling_questions}
+use Rattle.ot_commands.specs.Explain.{AreAllowed, ExplainsCounter, ExplainsSettled, ExplainsVerdict}
+use Rattle.ot_commands.specs.Explain.{IsReplyToExplained, IsReplyToRead, IsReplyToText, attempt_of, steps_of}
 use Rattle.ot_commands.specs.Load.{IsReplyToFile}
 use Rattle.ot_commands.specs.Prove.{TellsCounter}
 use Rattle.ot_top.specs.Evidence.{Certificate, Evidence, Proof, IsEvidence}
@@ -64,18 +66,21 @@ counter_other : (f : Function) (ob : ObName) (answers : List Answer) (why : Why)
     → ExplainsCounter f ob answers why r → status_of r ≢ 3
 counter_other f ob answers why r explains = other_than r _ explains.2 (λ is. absurd (omega (arith, is)))
 
-settled_other : (f : Function) (level : Level) (settled : Settled) (r : Reply)
-    → ExplainsSettled f level settled r → status_of r ≢ 3
-settled_other f level (outcomes.Yes bytes) r same = other_than r _ same (λ is. absurd (omega (arith, is)))
-settled_other f level (outcomes.No ob answers why) r explains = counter_other f ob answers.items why r explains
-settled_other f level (outcomes.Spent cause) r same = other_than r _ same (λ is. absurd (omega (arith, is)))
+settled_other : (f : Function) (level : Level) (asked : Questions) (written : ℕ) (settled : Settled) (r : Reply)
+    → ExplainsSettled f level asked written settled r → status_of r ≢ 3
+settled_other f level asked written (outcomes.Yes bytes) r same =
+    other_than r _ same (λ is. absurd (omega (arith, is)))
+settled_other f level asked written (outcomes.No ob answers why) r explains =
+    counter_other f ob answers.items why r explains
+settled_other f level asked written (outcomes.Spent cause) r same =
+    other_than r _ same (λ is. absurd (omega (arith, is)))
 
 verdict_other : (f : Function) (level : Level) (verdict : Verdict) (r : Reply)
     → ExplainsVerdict f level verdict r → status_of r ≢ 3
 verdict_other f level (verdicts.Yes bytes asked) r same = other_than r _ same (λ is. absurd (omega (arith, is)))
 verdict_other f level (verdicts.No ob answers why) r explains = counter_other f ob answers.items why r explains
-verdict_other f level verdicts.Spent r (settled, asked, over, written, is_settled, caused, explains) =
-    settled_other f level settled r explains
+verdict_other f level verdicts.Spent r (settled, asked, over, written, is_settled, allowed, caused, explains) =
+    settled_other f level asked written settled r explains
 
 -- a text that is read gets another status, and one that is refused gets this one
 pub read_other : (f : Function) (level : Level) (r : Reply) → IsReplyToExplained f level r → status_of r ≢ 3
@@ -124,16 +129,25 @@ module _ (has_level : (e : Evidence) (bytes : List ℕ) (f : Function) (level : 
       inr (inl (counter, status_as other same, by.0, by.1, by.2, by.3, by.4, written_as other same))
 
   -- by what settling came to, where `prove` asked too much
-  settled : (many : HasManyQuestions f level) (settled : Settled) → IsSettled f level settled
-      → ExplainsSettled f level settled r → Shows
-  settled many (outcomes.Yes bytes) shown same =
+  settled : (many : HasManyQuestions f level) (settled : Settled) (asked : Questions) (over : Bool) (bytes_written : ℕ)
+      → IsSettled f level settled → AreAllowed settling_questions asked
+      → HasCause settling_questions asked over bytes_written settled
+      → ExplainsSettled f level asked bytes_written settled r → Shows
+  settled many (outcomes.Yes bytes) asked over bytes_written shown allowed caused same =
       holding (grounds.Proof (length bytes.items)) (has_level Proof bytes.items f level shown.judged)
       (bytes.items, shown.judged, refl) same
-  settled many (outcomes.No ob answers why) refuted explains =
+  settled many (outcomes.No ob answers why) asked over bytes_written refuted allowed caused explains =
       broken Proof ob answers.items why explains (λ counter tells. (outcomes.No ob answers why, refuted, tells))
-  settled many (outcomes.Spent cause) said same =
-      let other : Reply = Explained (Open (unsettled_by cause)) in
-      inr (inr (unsettled_by cause, status_as other same, many, written_as other same))
+  settled many (outcomes.Spent cause) asked over bytes_written said allowed caused same =
+      let attempt : Attempt = attempt_of cause asked bytes_written in
+      let other : Reply = Explained (Open most_questions attempt) in
+      inr (inr (
+        attempt,
+        status_as other same,
+        many,
+        record { allowed = allowed; cause = cause; named = refl; over = over; is_so = caused },
+        written_as other same,
+      ))
 
   -- by the verdict
   by_verdict : (verdict : Verdict) → IsDecidedAs f level most_questions verdict
@@ -151,12 +165,14 @@ module _ (has_level : (e : Evidence) (bytes : List ℕ) (f : Function) (level : 
   by_verdict (verdicts.No ob answers why) decided explains =
       broken Certificate ob answers.items why explains
       (λ counter tells. (verdicts.No ob answers why, decided, λ _. tt, tells))
-  by_verdict verdicts.Spent decided (settlement, asked, over, written_bytes, is_settled, caused, explains) =
-      settled (decided.0, decided.1, decided.2) settlement is_settled explains
+  by_verdict verdicts.Spent decided
+      (settlement, asked, over, bytes_written, is_settled, allowed, caused, explains) =
+      settled (decided.0, decided.1, decided.2) settlement asked over bytes_written is_settled allowed caused explains
 
   pub explained_so : IsReplyToExplained f level r → Shows
   explained_so (verdict, decided, explains) = by_verdict verdict decided explains
 
+-- what `explain` was answered of a file that is the text of a function shows why its status is so
 pub explained :
     ((e : Evidence) (bytes : List ℕ) (f : Function) (level : Level) → IsEvidence e bytes f level → HasLevel f level)
     → ((e : Evidence) (f : Function) (level : Level) (budget : ℕ) (r : Reply) → 1 ≡ status_of r → IsTrue (is_valid f)

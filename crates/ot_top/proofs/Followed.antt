@@ -59,6 +59,7 @@ told_end hub r is = absurd is
 
 -- no refusal has status 0
 module _ (r : Reply) (is_zero : 0 ≡ status_of r) where
+  -- a reply of status 0 refuses no case
   case_not_refused : (fault : CaseFault) → r ≡ CaseRefused fault → ⊥
   case_not_refused faults.Json is = other_status r (CaseRefused faults.Json) 4 is_zero is refl (omega arith)
   case_not_refused (faults.Field name) is =

@@ -6,6 +6,7 @@ mod Breaking
 mod Confirmed
 mod Explained
 mod Followed
+mod Mended
 mod NeverLong
 mod OneAudit
 mod OneDecision

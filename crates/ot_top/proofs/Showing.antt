@@ -45,6 +45,7 @@ module _ (r : Reply) (is_zero : 0 ≡ status_of r) where
 
   -- status 0 of a judgement's reply is that of an accepted certificate, all of whose bytes were judged
   module _ {T : Type 0} (Judges : List ℕ → Result T JudgeError → Type 0) (accepts : T → Reply) where
+    -- a judgement of a whole file that is not told as a refusal accepts it, and that is told
     accepted_bytes :
         (contents : List ℕ) (judgement : Result T JudgeError)
         → Judges (take (limit_of files.Certificate) contents) judgement

@@ -26,6 +26,7 @@ use Rattle.ot_top.specs.Explained.{IsExplained}
 use Rattle.ot_top.specs.Followed.{IsFollowed}
 use Rattle.ot_top.specs.Shown.{HasLevel, IsComplete, IsProved, IsShownBroken}
 use Rattle.ot_top.specs.Shows.{AreKnown, IsOfReply, StatusShows}
+use Rattle.ot_top.specs.Mended.{IsMended}
 use Rattle.ot_top.specs.Templated.{IsTemplated}
 use Rattle.ot_replies.specs.Texts.{status_of, text_of}
 use Rattle.ot_top.proofs.Audited.{audited, compared}
@@ -70,6 +71,7 @@ module _ (words : List (List ℕ)) (holds : List ℕ → Option (List ℕ)) (IsW
     (lacks : (f : Function) → InsertsAndDeletesOnPlain f.head → ¬ (HasTp1 f × HasTp2 f))
     (one_list : (p : Plan Why) (w : List Lit) (q r : Questions Why) → QuestionList p w q → QuestionList p w r → q ≡ r)
     (is_explained : IsAnswered words holds status IsWritten → IsExplained words holds IsWritten status)
+    (is_mended : IsAnswered words holds status IsWritten → IsMended words holds IsWritten status)
     (is_templated : IsAnswered words holds status IsWritten → IsTemplated words IsWritten status)
     (is_broken :
     (e : Evidence) (r : Reply) → 1 ≡ status_of r → IsReply words holds r → IsWritten (text_of r)
@@ -134,6 +136,7 @@ module _ (words : List (List ℕ)) (holds : List ℕ → Option (List ℕ)) (IsW
         confirm_judged = λ of_a_reply. confirm_judged is_read words holds status IsWritten (answered of_a_reply);
         traced = λ of_a_reply. traced_file is_read words holds status IsWritten (answered of_a_reply);
         explained = λ of_a_reply. is_explained (answered of_a_reply);
+        mended = λ of_a_reply. is_mended (answered of_a_reply);
         templated = λ of_a_reply. is_templated (answered of_a_reply);
         gone_through = λ of_a_reply. gone_through words holds status IsWritten (answered of_a_reply);
         steady =

@@ -31,7 +31,8 @@ module _ (tests : (head : Head) → (inserts_and_deletes_on_plain head ≡ true 
     (one_outcome : (f : Function) → HasTp1 f → HasTp2 f → HasOneOutcome f)
     (is_text : (bytes : List ℕ) (f : Function) → function_in bytes ≡ Ok f → IsTextOf bytes f) where
   -- where no test says that there is none, the template has the level
-  template_has_level : (level : Level) (head : Head) → has_none level head ≡ false → HasLevel (template_of head) level
+  pub template_has_level :
+      (level : Level) (head : Head) → has_none level head ≡ false → HasLevel (template_of head) level
   template_has_level Tp1 head other = tp1 head
   template_has_level Tp2 head other =
       let second : HasTp2 (template_of head) = tp2 head (λ is. let test = passes head is in cc) in

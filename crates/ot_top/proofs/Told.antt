@@ -143,15 +143,18 @@ reply_status (replies.Confirmed level) = inl (omega arith)
 reply_status (replies.ProofRefused offset why) = inl (omega arith)
 reply_status (replies.Templated bytes) = inl (omega arith)
 reply_status replies.NoTemplate = inl (omega arith)
+reply_status (replies.Mended bytes) = inl (omega arith)
+reply_status (replies.NotMended most) = inl (omega arith)
 reply_status (replies.Traced bytes status) = traced_named status
 reply_status (replies.Explained (explanations.Holds level basis)) = inl (omega arith)
 reply_status (replies.Explained (explanations.Breaks counter steps)) = inl (omega arith)
-reply_status (replies.Explained (explanations.Open cause)) = eight
+reply_status (replies.Explained (explanations.Open most attempt)) = eight
 reply_status (replies.Explained (explanations.Misread fault hint)) = inl (omega arith)
 reply_status (replies.Drilled d) = differ_named d.differ
 reply_status replies.Usage = inl (omega arith)
 reply_status (replies.TooLong kind) = nine
 
+-- no status is above 10: it is 6, 7 or 10, or that of a reply, at most 9
 pub named : (status : ℕ) → (status ≢ 6 → status ≢ 7 → status ≢ 10 → (r : Reply) × (status ≡ status_of r)) → status ≤ 10
 named status answered =
     elim (three status) as (λ _. status ≤ 10) [
@@ -232,6 +235,7 @@ file_judged Judges accepts zero told certificate r is within (contents, known, (
     by_reply (inr h) = judgement_status accepts judgement r zero h.1
 
 module _ (texts_are_read : (bytes : List ℕ) (f : Function) → IsTextOf bytes f → function_in bytes ≡ Ok f) where
+  -- `check` is answered by the judgement of the told bytes
   pub judged :
       (words : List (List ℕ)) (holds : List ℕ → Option (List ℕ)) (status : ℕ) (IsWritten : List ℕ → Type 0)
       → IsAnswered words holds status IsWritten → IsJudgedAs words holds status

@@ -40,6 +40,7 @@ status_passed s is = go (nat_le s 5) refl is
     go false more (inl low) = absurd (grind (arith, nat_tests))
     go false more (inr high) = high_passed s (nat_le s 8) refl high
 
+-- what `trace` was answered of told files is their trace, and the status is that of the reply at its end
 pub traced_file :
     ((bytes : List ℕ) (f : Function) → IsTextOf bytes f → function_in bytes ≡ Ok f)
     → (words : List (List ℕ)) (holds : List ℕ → Option (List ℕ)) (status : ℕ) (IsWritten : List ℕ → Type 0)
@@ -52,12 +53,10 @@ traced_file is_read words holds status IsWritten (r, reply, steady, is, written)
     let of_bytes : IsReplyToTraced events f contents r =
     contents_get (holds file) contents (λ b. IsReplyToTraced events f b r) r file_told within got in
     let end = of_bytes.1 in
-    let same : r ≡ traced of_bytes.0 end of_bytes.2 = of_bytes.5 in (
+    let same : r ≡ traced events contents of_bytes.0 end = of_bytes.3 in (
       of_bytes.0,
       end,
       of_bytes.2,
-      of_bytes.3,
-      of_bytes.4,
       is ∙ ap (λ x. status_of x) same ∙ status_passed (status_of end) (reply_status end),
       subst IsWritten (ap (λ x. text_of x) same) written,
     )

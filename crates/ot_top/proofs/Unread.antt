@@ -45,10 +45,11 @@ use Rattle.ot_replies.specs.declared.reply.Reply.TheVariants as replies
 use Rattle.ot_replies.specs.declared.reply.Subject.{Subject}
 use Rattle.ot_replies.specs.declared.reply.Subject.TheVariants.{First, Second}
 use Rattle.ot_words.specs.Commands.{Asked, Prove, Settle, Check, Integrate, Replay, Hub, Audit, Same, Reverse, Least}
-use Rattle.ot_words.specs.Commands.{Bound, Confirm, Drill, Template, Explain, Trace}
+use Rattle.ot_words.specs.Commands.{Bound, Confirm, Drill, Template, Explain, Mend, Trace}
 use Rattle.ot_words.specs.declared.command.TraceKind.TheVariants as traces
 use Rattle.fn_tokens.specs.declared.fault.TextFault.{TextFault}
 use Rattle.ot_commands.specs.Explain.{IsReplyToRead, IsReplyToText}
+use Rattle.ot_top.proofs.Mended.{mend_other}
 use Rattle.ot_top.proofs.Explained.{bytes_get, read_other, text_gets}
 use Rattle.ot_top.proofs.Templated.{template_other}
 use Rattle.ot_questions.specs.declared.why.Why.{Why}
@@ -273,7 +274,7 @@ status_other s other = go (nat_le s 5)
 
 traced_other : (events : TraceKind) (f : Function) (bytes : List ℕ) (r : Reply)
     → IsReplyToTraced events f bytes r → status_of r ≢ 3
-traced_other events f bytes r (told, end, lines, tells, says, same) is =
+traced_other events f bytes r (told, end, tells, same) is =
     status_other (status_of end) (end_other events f bytes told end tells) (sym (ap (λ x. status_of x) same) ∙ is)
 
 audit_other : (audit : AnyAudit) (r : Reply) → r ≡ replies.Audited audit → status_of r ≢ 3
@@ -346,6 +347,8 @@ module _ (texts_are_read : (bytes : List ℕ) (f : Function) → IsTextOf bytes 
       read_or_not First name [] _ (λ f gets. verdict_other f gets.0 r gets.3) reply
   unread_reply (Settle level budget name) reply =
       read_or_not First name [] _ (λ f gets. settled_other f gets.0 r gets.2) reply
+  unread_reply (Mend level most budget name) reply =
+      read_or_not First name [] _ (λ f gets. mend_other level most budget f r gets) reply
   unread_reply (Explain level name) reply = text_or_not level name reply
   unread_reply (Trace events name file) reply =
       read_or_not First name [] _

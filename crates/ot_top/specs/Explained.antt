@@ -9,15 +9,15 @@ use Rattle.ot_questions.specs.Obligation.{plan_of}
 use Rattle.ot_decide.specs.Verdicts.{AreAsked, ObQuestions, count_in, failing_in}
 use Rattle.ot_counter.specs.declared.counter.Counter.{Counter}
 use Rattle.ot_counter.specs.Counters.{Breaks, BreaksBy}
+use Rattle.ot_replies.specs.declared.reply.Attempt.{Attempt}
 use Rattle.ot_replies.specs.declared.reply.FileKind.TheVariants as files
 use Rattle.ot_replies.specs.declared.reply.Ground.{Ground}
 use Rattle.ot_replies.specs.declared.reply.Ground.TheVariants as grounds
-use Rattle.ot_replies.specs.declared.reply.Unsettled.{Unsettled}
 use Rattle.ot_replies.specs.ExplainTexts.{breaks_text, holds_text, open_text}
 use Rattle.ot_replies.specs.Limits.{limit_of}
 use Rattle.ot_words.specs.Commands.{Explain}
 use Rattle.ot_words.specs.Words.{asked_by, most_questions}
-use Rattle.ot_commands.specs.Explain.{steps_of}
+use Rattle.ot_commands.specs.Explain.{IsAttempt, steps_of}
 use Rattle.ot_top.specs.Evidence.{Proof, IsEvidence}
 use Rattle.ot_top.specs.Shown.{AreBothWays, HasBefore, HasLevel, IsAskedAt}
 
@@ -51,10 +51,12 @@ IsExplainedBroken f level IsWritten status =
     × AreBothWays f counter.level counter.doc counter.ops counter.left counter.right
     × IsWritten (breaks_text counter (steps_of f counter))
 
--- at status 8 there are more questions than `prove` may ask, and `settle` said nothing either
+-- at status 8 there are more questions than `prove` may ask, and `settle` said nothing either, for the cause that was
+-- written: it is so, by the questions and the bytes that were written
 abbrev pub IsExplainedOpen : Function → Level → (List ℕ → Type 0) → ℕ → Type 0
 IsExplainedOpen f level IsWritten status =
-    (cause : Unsettled) × (status ≡ 8) × HasManyQuestions f level × IsWritten (open_text cause)
+    (attempt : Attempt) × (status ≡ 8) × HasManyQuestions f level × IsAttempt attempt
+    × IsWritten (open_text most_questions attempt)
 
 -- the words ask to explain a function; where its file is told, is within its limit and is the text of a function by the
 -- grammar, the status and what was written are one of these

@@ -8,5 +8,6 @@ pub mod Followed
 pub mod Explained
 pub mod Traced
 pub mod Templated
+pub mod Mended
 pub mod Shows
 pub mod Answers

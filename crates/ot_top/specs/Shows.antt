@@ -13,6 +13,7 @@ use Rattle.ot_commands.specs.Given.{TellsGivenOf}
 use Rattle.ot_commands.specs.Hub.{IsServed}
 use Rattle.ot_commands.specs.Replay.{IsSteadyReplay}
 use Rattle.ot_commands.specs.Reverse.{IsReversed}
+use Rattle.ot_top.specs.Mended.{IsMended}
 use Rattle.ot_top.specs.Templated.{IsTemplated}
 use Rattle.ot_top.specs.Traced.{IsTraced}
 use Rattle.ot_top.specs.Shown.{IsComplete, IsGoneThrough, IsJudgedAs, IsProved, IsShown, IsShownBroken, IsUnread}
@@ -29,7 +30,8 @@ IsOfReply status = (status ≢ SHELF_FAULT) × (status ≢ SINK_FAULT) × (statu
 -- clients and their server, the end that `hub` writes is that of a hub whose documents follow its log, `audit`, `same`
 -- and `reverse` write what is so of all operations, no document is shorter than `least` and `bound` say, `trace` writes
 -- what happened and what the command answers that runs the file, `explain` writes why a function has what is asked or
--- where it breaks it, `template` writes a function that has what is asked, or no transformation has it, and no event of
+-- where it breaks it, `mend` writes the function that the fewest edits lead to and that has what is asked, or none of
+-- those has it, `template` writes a function that has what is asked, or no transformation has it, and no event of
 -- a workload is refused, no site of it is stuck, and no two sites of it differ
 pub record StatusShows (words : List (List ℕ)) (holds : List ℕ → Option (List ℕ)) (IsWritten : List ℕ → Type 0)
     (status : ℕ) : Type 0 where
@@ -53,6 +55,7 @@ pub record StatusShows (words : List (List ℕ)) (holds : List ℕ → Option (L
   pub confirm_judged : IsOfReply status → IsConfirmJudgedAs words holds status
   pub traced : IsOfReply status → IsTraced words holds IsWritten status
   pub explained : IsOfReply status → IsExplained words holds IsWritten status
+  pub mended : IsOfReply status → IsMended words holds IsWritten status
   pub templated : IsOfReply status → IsTemplated words IsWritten status
   pub gone_through : IsOfReply status → IsGoneThrough words status IsWritten
 

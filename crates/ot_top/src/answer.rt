@@ -18,6 +18,7 @@ use ot_commands::hub::hub;
 use ot_commands::integrate::integrate;
 use ot_commands::least::least;
 use ot_commands::load::Stop;
+use ot_commands::mend::mend;
 use ot_commands::prove::prove;
 use ot_commands::replay::replay;
 use ot_commands::reverse::reverse;
@@ -52,6 +53,12 @@ fn reply_to<H: Shelf>(alloc: Global, shelf: &mut H, command: &Command<'_>) -> Re
             budget,
             function,
         } => settle(alloc, shelf, level, budget, function),
+        Command::Mend {
+            level,
+            edits,
+            budget,
+            function,
+        } => mend(alloc, shelf, level, edits, budget, function),
         Command::Explain { level, function } => explain(alloc, shelf, level, function),
         Command::Check {
             function,

@@ -13,6 +13,7 @@ ghost use Rattle.ot_words.specs.Words.{asked_by};
 
 use crate::answer::answer;
 use fn_text::{texts_of_functions_are_read, what_is_read_is_in_the_grammar};
+use mend_texts::members_are_made;
 use ot_bound::{bytes_have_one_low_judgement, low_certificates_show_shorter_documents};
 use ot_commands::load::Stop;
 use ot_confirm::proofs_show_the_properties;
@@ -27,8 +28,8 @@ use ot_integrate::both_properties_give_one_outcome;
 use ot_judge::{bytes_have_one_judgement, certificates_show_the_properties};
 use ot_least::first_documents_are_never_too_long;
 use ot_outside::{Shelf, Sink, write_all};
-use ot_prove::plans_have_one_question_list;
-use ot_questions::Why;
+use ot_prove::{plans_have_one_question_list, question_lists_tell_where_plans_fail};
+use ot_questions::{Why, pair_plans_mean_tp1, triple_plans_mean_tp2};
 use ot_replies::{Reply, status, text};
 use std::alloc::Global;
 
@@ -123,6 +124,10 @@ pub fn run<H: Shelf, S: Sink>(alloc: Global, words: &[String], shelf: &mut H, ou
     templates_have_what_can_be_had();
     both_properties_give_one_outcome();
     plans_have_one_question_list::<Why>();
+    question_lists_tell_where_plans_fail::<Why>();
+    pair_plans_mean_tp1();
+    triple_plans_mean_tp2();
+    members_are_made();
     texts_of_functions_are_read();
     what_is_read_is_in_the_grammar();
     write_answer(alloc, words, shelf, out)

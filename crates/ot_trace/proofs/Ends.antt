@@ -1,17 +1,15 @@
 -- What came of an operation of an order, and what follows on it.
 use Rattle.std.proofs.Common.{◌≡◌, ℕ, ◌+◌, ◌<◌, true, false, List, [], ◌∷◌, ◌++◌, length, drop, get_or, Option, Some}
-use Rattle.std.proofs.Common.{None, refl, sym, ap, ◌∙◌, inl, inr, append_assoc}
-use Rattle.std.specs.List.{flat_map}
+use Rattle.std.proofs.Common.{None, refl, sym, ap, inl, inr}
 use Rattle.std.proofs.lemmas.Bool.{cases_Bool}
-use Rattle.std.proofs.lemmas.List.{drop_more, append-nil}
+use Rattle.std.proofs.lemmas.List.{drop_more}
 use Rattle.ot_model.specs.declared.cell.Cell.{Cell}
 use Rattle.ot_model.specs.declared.op.Op.{Op}
 use Rattle.ot_model.specs.Effect.{is_enabled, document_after}
 use Rattle.fn_rules.specs.Functions.{Function}
 use Rattle.fn_rules.specs.Orders.{through, operation_at}
-use Rattle.ot_trace.specs.Orders.{OpEnd, Executed, NoForm, NotEnabled, OpTrace, end_of, op_trace, behind, traces_from}
+use Rattle.ot_trace.specs.Orders.{Executed, NotEnabled, OpTrace, end_of, op_trace, behind, traces_from}
 use Rattle.ot_trace.specs.Orders.{HasEnded}
-use Rattle.ot_trace.specs.Texts.{op_lines}
 
 -- a form was executed on a document
 pub record WasExecuted (f : Function) (d : List Cell) (form : Option Op) (p : Op) (new : List Cell) : Type 0 where
@@ -20,6 +18,7 @@ pub record WasExecuted (f : Function) (d : List Cell) (form : Option Op) (p : Op
   pub document : new ≡ document_after f.head.mode p d
   pub end : end_of f d form ≡ Executed p new
 
+-- where an order goes on with an operation, that operation was the form, enabled and executed
 pub was_executed : (f : Function) (d : List Cell) (form : Option Op) (p : Op) (new : List Cell)
     → HasEnded (end_of f d form) d (Some p) new
     → WasExecuted f d form p new

@@ -5,7 +5,7 @@ use Rattle.ot_model.specs.declared.op.Op.{Op}
 use Rattle.fn_rules.specs.Functions.{Function}
 use Rattle.fn_rules.specs.Transformation.{transform_of}
 use Rattle.fn_rules.specs.Orders.{through}
-use Rattle.ot_steps.specs.Steps.{step_of}
+use Rattle.ot_ways.specs.Steps.{step_of}
 use Rattle.ot_trace.specs.Steps.{steps_over}
 
 module _ (f : Function) (o : Op) (executed : List Op) (i : ℕ) (other : Op) (inside : i < length executed) where

@@ -1,5 +1,5 @@
 -- A trace ends as the integration does.
-use Rattle.std.proofs.Common.{◌≡◌, ℕ, ◌+◌, true, false, List, [], ◌∷◌, ◌++◌, length, map, Option, Some, None, refl, inl}
+use Rattle.std.proofs.Common.{◌≡◌, ℕ, ◌+◌, List, [], ◌∷◌, ◌++◌, length, map, Option, Some, None, refl, inl}
 use Rattle.std.proofs.Common.{inr}
 use Rattle.std.proofs.lemmas.Bool.{cases_Bool}
 use Rattle.ot_model.specs.declared.cell.Cell.{Cell}
@@ -7,7 +7,7 @@ use Rattle.ot_model.specs.declared.op.Op.{Op}
 use Rattle.ot_model.specs.Effect.{is_enabled, document_after}
 use Rattle.fn_rules.specs.Functions.{Function}
 use Rattle.fn_rules.specs.Orders.{StuckAt, through, with_form, outcome_from, operation_at}
-use Rattle.ot_trace.specs.Orders.{OpEnd, end_of, behind, after_end, ends_with, traces_from}
+use Rattle.ot_trace.specs.Orders.{end_of, behind, after_end, ends_with, traces_from}
 
 -- from a document and executed forms on: by what comes of the first operation that is left
 pub traces_end : (f : Function) (d : List Cell) (ops executed : List Op) (place : ℕ) (order : List ℕ)

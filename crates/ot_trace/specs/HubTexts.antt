@@ -1,6 +1,6 @@
 -- The lines of a hub, event by event. Texts are bytes.
 use Rattle.std.specs.Prelude.{◌≡◌, ◌≢◌, ℕ, nat_eq, if◌then◌else◌, List, [], ◌∷◌, ◌++◌, Option, Some, None, codes}
-use Rattle.std.specs.Prelude.{slice_get, Bool, Result, Ok, Err, option_map}
+use Rattle.std.specs.Prelude.{slice_get, Bool, Ok, Err, option_map}
 use Rattle.std.specs.Fmt.{decimal}
 use Rattle.std.specs.List.{flat_map}
 use Rattle.ot_model.specs.declared.cell.Cell.{Cell}
@@ -20,10 +20,10 @@ use Rattle.ot_hub.specs.declared.placed.Entry.{Entry}
 use Rattle.ot_hub.specs.declared.placed.PlacedOp.{PlacedOp}
 use Rattle.ot_hub.specs.Crossings.{up_crossings, down_crossings}
 use Rattle.ot_hub.specs.Views.{HubData, begun_hub, client_of, HasEdited, HasMoved, up_step, down_step}
-use Rattle.ot_steps.specs.declared.one_step.Step.{Step}
+use Rattle.ot_ways.specs.declared.one_step.Step.{Step}
 use Rattle.ot_trace.specs.Columns.{columns, two_columns}
 use Rattle.ot_trace.specs.Events.{IsTold, TracesBy}
-use Rattle.ot_steps.specs.Steps.{step_of}
+use Rattle.ot_ways.specs.Steps.{step_of}
 use Rattle.ot_steps.specs.StepTexts.{choice_text, result_text, short_op}
 use Rattle.ot_trace.specs.Texts.{done_line, step_line}
 

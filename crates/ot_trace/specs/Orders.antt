@@ -5,7 +5,7 @@ use Rattle.ot_model.specs.declared.op.Op.{Op}
 use Rattle.ot_model.specs.Effect.{is_enabled, document_after}
 use Rattle.fn_rules.specs.Functions.{Function}
 use Rattle.fn_rules.specs.Orders.{Outcome, Document, StuckAt, through, operation_at}
-use Rattle.ot_steps.specs.declared.one_step.Step.{Step}
+use Rattle.ot_ways.specs.declared.one_step.Step.{Step}
 use Rattle.ot_trace.specs.Steps.{steps_over}
 
 -- what came of an operation: its form was executed, and this is the document behind it; it has no form, or one that is

@@ -1,5 +1,5 @@
 -- The lines of a session, event by event. Texts are bytes.
-use Rattle.std.specs.Prelude.{◌≡◌, ◌≢◌, ℕ, Bool, List, [], ◌∷◌, ◌++◌, codes, Result, Ok, Err}
+use Rattle.std.specs.Prelude.{◌≡◌, ◌≢◌, ℕ, Bool, List, [], ◌∷◌, ◌++◌, codes, Ok, Err}
 use Rattle.std.specs.Fmt.{decimal}
 use Rattle.std.specs.List.{flat_map}
 use Rattle.ot_model.specs.declared.cell.Cell.{Cell}
@@ -13,12 +13,16 @@ use Rattle.ot_session.specs.declared.answer.Take.{Take}
 use Rattle.ot_session.specs.declared.answer.Take.TheVariants as takes
 use Rattle.ot_session.specs.declared.answer.Took.{Took}
 use Rattle.ot_session.specs.declared.answer.Took.TheVariants.{Done, Held, Repeat}
+use Rattle.ot_session.specs.declared.pairs.FormPair.{FormPair}
+use Rattle.ot_session.specs.FormPairs.{integrated_pairs}
 use Rattle.ot_session.specs.Making.{HasRefused}
 use Rattle.ot_session.specs.Views.{View, data_in, IsBegun, HasMade, HasTaken}
 use Rattle.ot_trace.specs.Columns.{columns, two_columns}
 use Rattle.ot_trace.specs.Events.{IsTold, TracesBy}
 use Rattle.ot_steps.specs.ShortDocuments.{short_document}
-use Rattle.ot_steps.specs.StepTexts.{short_op}
+use Rattle.ot_steps.specs.StepTexts.{choice_text, result_text, short_op}
+use Rattle.ot_ways.specs.declared.one_step.Step.{Step}
+use Rattle.ot_ways.specs.Steps.{step_of}
 use Rattle.ot_trace.specs.Texts.{done_line}
 
 -- the name of an event, by its number and its site
@@ -45,16 +49,42 @@ took_line (Done done) d =
 took_line Held d = codes "  held" ++ 10 ∷ []
 took_line Repeat d = codes "  repeated" ++ 10 ∷ []
 
--- a site took an operation with this number
-abbrev pub take_text : ℕ → ℕ → ℕ → Took → List Cell → List ℕ
-take_text i s n took d = two_columns (site_event i s) (op_name n) ++ took_line took d
+-- which operation was carried over which one
+abbrev pub over_name : ℕ → ℕ → List ℕ
+over_name n m = codes "  " ++ decimal n ++ codes " over " ++ decimal m
+
+-- a transformation that led to what a site executed of an operation: its number and that of the operation over which it
+-- was carried, as that was executed; what came of it, and the case that was taken
+abbrev pub carried_line : Function → ℕ → FormPair → Step → List ℕ
+carried_line f n pair step =
+    columns (over_name n pair.number ++ codes ": " ++ short_op pair.against) (result_text step.result)
+    (choice_text f step.result step.taken)
+
+abbrev pub pair_line : Function → ℕ → FormPair → List ℕ
+pair_line f n pair = carried_line f n pair (step_of f pair.form pair.against)
+
+-- all transformations that led to what a site executed of an operation
+abbrev pub pair_lines : View → ℕ → ℕ → List ℕ
+pair_lines v s n =
+    flat_map (pair_line v.function n) (integrated_pairs v.function (data_in v).past ((data_in v).seen s) n)
+
+-- those of the operations that a site integrated
+abbrev pub carried_text : View → ℕ → Took → List ℕ
+carried_text v s (Done done) = flat_map (pair_lines v s) done
+carried_text v s Held = []
+carried_text v s Repeat = []
+
+-- a site took an operation with this number, and this is the session then
+abbrev pub take_text : View → ℕ → ℕ → ℕ → Took → List ℕ
+take_text v i s n took =
+    two_columns (site_event i s) (op_name n) ++ carried_text v s took ++ took_line took ((data_in v).document s)
 
 -- an event is done, and this is told of it
 abbrev pub TellsEvent : View → ℕ → Event → View → List ℕ → Type 0
 TellsEvent v i (events.Make s o) new line =
     (n : ℕ) × HasMade v new s o n × (line ≡ make_text i s n o ((data_in new).document s))
 TellsEvent v i (events.Take s n) new line =
-    (took : Took) × HasTaken v new s n (Ok took) × (line ≡ take_text i s n took ((data_in new).document s))
+    (took : Took) × HasTaken v new s n (Ok took) × (line ≡ take_text new i s n took)
 
 -- an event is refused, and this is told of it: nothing but the reply to the session
 abbrev pub StopsEvent : View → ℕ → Event → List ℕ → Type 0

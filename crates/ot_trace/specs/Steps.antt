@@ -3,8 +3,8 @@ use Rattle.std.specs.Prelude.{List, [], ◌∷◌, Option, Some, None}
 use Rattle.ot_model.specs.declared.op.Op.{Op}
 use Rattle.fn_rules.specs.Functions.{Function}
 use Rattle.fn_rules.specs.Transformation.{transform_of}
-use Rattle.ot_steps.specs.declared.one_step.Step.{Step}
-use Rattle.ot_steps.specs.Steps.{step_of}
+use Rattle.ot_ways.specs.declared.one_step.Step.{Step}
+use Rattle.ot_ways.specs.Steps.{step_of}
 
 -- what follows on a result, where there is one
 abbrev pub following : Option Op → (Op → List Step) → List Step

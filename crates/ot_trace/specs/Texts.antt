@@ -7,7 +7,7 @@ use Rattle.ot_model.specs.declared.op.Op.{Op}
 use Rattle.ot_model.specs.Operations.{at_of}
 use Rattle.case_json.specs.declared.trial.Trial.{Trial}
 use Rattle.fn_rules.specs.Functions.{Function}
-use Rattle.ot_steps.specs.declared.one_step.Step.{Step}
+use Rattle.ot_ways.specs.declared.one_step.Step.{Step}
 use Rattle.ot_trace.specs.Columns.{columns, two_columns}
 use Rattle.ot_trace.specs.Orders.{OpEnd, Executed, NoForm, NotEnabled, OpTrace, order_trace}
 use Rattle.ot_steps.specs.ShortDocuments.{short_document}

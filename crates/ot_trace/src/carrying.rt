@@ -14,7 +14,7 @@ use fn_rules::{
     Rules, enabled_operations_are_near, functions_keep_forms, rules_are_valid, transform_stays_near,
 };
 use ot_model::{NoMemory, Op};
-use ot_steps::{Step, step};
+use ot_ways::{Step, step};
 use plain_list::List;
 use std::alloc::Global;
 

@@ -22,7 +22,7 @@ use case_json::{HubEvent, HubScript};
 use fn_rules::Rules;
 use ot_hub::{Crossing, Edit, Entry, Hub, Move, PlacedOp};
 use ot_model::{Doc, NoMemory, Op};
-use ot_steps::{Step, step};
+use ot_ways::{Step, step};
 use std::alloc::Global;
 
 fn write_back(alloc: Global, rules: &Rules, step: &Step, out: &mut Vec<u8>) -> Result<(), NoMemory>

@@ -11,7 +11,8 @@ ghost use Rattle.ot_trace.specs.Texts.{done_line, end_line, op_line, step_line};
 use crate::columns::{append, write_columns, write_two_columns};
 use fn_rules::Rules;
 use ot_model::{Doc, NoMemory, Op};
-use ot_steps::{Step, write_choice, write_form, write_short_document, write_short_op};
+use ot_steps::{write_choice, write_form, write_short_document, write_short_op};
+use ot_ways::Step;
 use std::alloc::Global;
 
 /// The text of an operation, behind some words.

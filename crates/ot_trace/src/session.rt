@@ -1,27 +1,31 @@
 //! A session, event by event.
-ghost use Rattle.std.specs.Prelude.{◌≡◌, ◌≢◌, ◌≤◌, ◌++◌, true, length, IfOk, OnOk};
-ghost use Rattle.std.specs.List.{flat_map};
+ghost use Rattle.std.specs.Prelude.{◌≡◌, ◌≢◌, ◌≤◌, ◌++◌, true, length, codes, IfOk, OnOk};
+ghost use Rattle.std.specs.List.{All, flat_map};
 ghost use Rattle.fn_rules.specs.Rules.{function_of};
 ghost use Rattle.case_json.specs.Scripts.{IsPlayable};
 ghost use Rattle.case_json.specs.declared.limits.TheConstants.{MAX_EVENTS};
 ghost use Rattle.case_json.specs.declared.script.Event.TheVariants as events;
-ghost use Rattle.ot_session.specs.Views.{view_of};
+ghost use Rattle.ot_causal.specs.Sessions.{IsSite};
+ghost use Rattle.ot_session.specs.FormPairs.{CanMove};
+ghost use Rattle.ot_session.specs.Views.{data_in, view_of};
 ghost use Rattle.ot_session.specs.declared.answer.Make.TheVariants as makes;
 ghost use Rattle.ot_session.specs.declared.answer.Take.TheVariants as takes;
 ghost use Rattle.ot_session.specs.declared.answer.Took.TheVariants.{Done};
-ghost use Rattle.ot_trace.specs.Columns.{columns};
-ghost use Rattle.ot_trace.specs.SessionTexts.{further_number, make_text, op_name, site_event, take_text, took_line};
+ghost use Rattle.ot_trace.specs.Columns.{columns, two_columns};
+ghost use Rattle.ot_trace.specs.SessionTexts.{carried_line, carried_text, further_number, make_text, op_name, pair_line};
+ghost use Rattle.ot_trace.specs.SessionTexts.{over_name, pair_lines, site_event, take_text, took_line};
 ghost use Rattle.ot_trace.specs.SessionTexts.{IsEventTold};
 ghost use Rattle.ot_steps.specs.StepTexts.{short_op};
 ghost use Rattle.ot_trace.specs.SessionTexts.{TracesScript, TracesSession};
 
 use crate::columns::{append, write_columns, write_two_columns};
-use crate::lines::{op_bytes, write_done};
+use crate::lines::{choice_bytes, form_bytes, op_bytes, write_done};
 use case_json::{Event, Script};
 use fn_rules::Rules;
 use ot_model::{Doc, NoMemory, Op};
-use ot_session::{Make, Session, Take, Took};
-use ot_steps::write_short_document;
+use ot_session::{FormPair, Make, Session, Take, Took};
+use ot_steps::{write_short_document, write_short_op};
+use ot_ways::{Step, step};
 use std::alloc::Global;
 
 // The line of an operation that a site makes.
@@ -87,6 +91,121 @@ fn write_integrated(
     append(b"\n", out)
 }
 
+// The first column of a transformation: of which operation, over which one.
+fn over_bytes(alloc: Global, number: u32, pair: &FormPair) -> Result<Vec<u8>, NoMemory>
+    ensures { IfOk result (λ text. text.items
+        ≡ over_name number pair.now.number ++ codes ": " ++ short_op pair.now.against) }
+{
+    let other = pair.number;
+    let name = format!(in alloc; "  {number} over {other}")?;
+    let mut text = Vec::new(alloc);
+    append(name.as_bytes(), &mut text)?;
+    append(b": ", &mut text)?;
+    write_short_op(alloc, &pair.against, &mut text)?;
+    Ok(text)
+}
+
+// The line of a transformation.
+fn write_carried(
+    alloc: Global,
+    rules: &Rules,
+    number: u32,
+    pair: &FormPair,
+    step: &Step,
+    out: &mut Vec<u8>,
+) -> Result<(), NoMemory>
+    ensures { OnOk result (out.new.items
+        ≡ out.old.items ++ carried_line (function_of rules.now) number pair.now step.now) }
+{
+    let over = over_bytes(alloc, number, pair)?;
+    let form = form_bytes(alloc, &step.result)?;
+    let case = choice_bytes(alloc, rules, step)?;
+    write_columns(&over, &form, &case, out)
+}
+
+fn write_pair(
+    alloc: Global,
+    rules: &Rules,
+    number: u32,
+    pair: &FormPair,
+    out: &mut Vec<u8>,
+) -> Result<(), NoMemory>
+    requires { CanMove (function_of rules.now) pair.now }
+    ensures { OnOk result (out.new.items ≡ out.old.items ++ pair_line (function_of rules.now) number pair.now) }
+{
+    let step = step(rules, &pair.form, &pair.against);
+    write_carried(alloc, rules, number, pair, &step, out)
+}
+
+fn write_pairs(
+    alloc: Global,
+    rules: &Rules,
+    number: u32,
+    pairs: &[FormPair],
+    out: &mut Vec<u8>,
+) -> Result<(), NoMemory>
+    requires { All (CanMove (function_of rules.now)) pairs.now }
+    ensures { OnOk result (out.new.items
+        ≡ out.old.items ++ flat_map (pair_line (function_of rules.now) number) pairs.now) }
+{
+    for pair in pairs {
+        write_pair(alloc, rules, number, pair, out)?;
+    }
+    Ok(())
+}
+
+// The transformations that led to what a site executed of an operation.
+fn write_integrated_op(
+    alloc: Global,
+    session: &Session,
+    site: u32,
+    number: u32,
+    out: &mut Vec<u8>,
+) -> Result<(), NoMemory>
+    requires is_open { (view_of session.now).is_open ≡ true }
+    requires site { IsSite (data_in (view_of session.now)).sites site }
+    ensures { OnOk result (out.new.items ≡ out.old.items ++ pair_lines (view_of session.now) site number) }
+{
+    let pairs = session.form_pairs(site, number)?;
+    write_pairs(alloc, session.rules(), number, pairs.as_slice(), out)
+}
+
+fn write_integrated_ops(
+    alloc: Global,
+    session: &Session,
+    site: u32,
+    done: &[u32],
+    out: &mut Vec<u8>,
+) -> Result<(), NoMemory>
+    requires is_open { (view_of session.now).is_open ≡ true }
+    requires site { IsSite (data_in (view_of session.now)).sites site }
+    ensures { OnOk result (out.new.items
+        ≡ out.old.items ++ flat_map (pair_lines (view_of session.now) site) done.now) }
+{
+    for number in done {
+        write_integrated_op(alloc, session, site, *number, out)?;
+    }
+    Ok(())
+}
+
+// The transformations of what a site integrated.
+fn write_all_carried(
+    alloc: Global,
+    session: &Session,
+    site: u32,
+    took: &Took,
+    out: &mut Vec<u8>,
+) -> Result<(), NoMemory>
+    requires is_open { (view_of session.now).is_open ≡ true }
+    requires site { IsSite (data_in (view_of session.now)).sites site }
+    ensures { OnOk result (out.new.items ≡ out.old.items ++ carried_text (view_of session.now) site took.now) }
+{
+    match took {
+        Took::Done(done) => write_integrated_ops(alloc, session, site, done.as_slice(), out),
+        Took::Held | Took::Repeat => Ok(()),
+    }
+}
+
 fn write_took(alloc: Global, took: &Took, doc: &Doc, out: &mut Vec<u8>) -> Result<(), NoMemory>
     ensures { OnOk result (out.new.items ≡ out.old.items ++ took_line took.now doc.now) }
 {
@@ -97,21 +216,38 @@ fn write_took(alloc: Global, took: &Took, doc: &Doc, out: &mut Vec<u8>) -> Resul
     }
 }
 
-fn write_take(
+// The line of an operation that a site takes.
+fn write_taken(
     alloc: Global,
     number: u32,
     site: u32,
     taken: u32,
-    took: &Took,
-    doc: &Doc,
     out: &mut Vec<u8>,
 ) -> Result<(), NoMemory>
-    ensures { OnOk result (out.new.items ≡ out.old.items ++ take_text number site taken took.now doc.now) }
+    ensures { OnOk result (out.new.items ≡ out.old.items ++ two_columns (site_event number site) (op_name taken)) }
 {
     let name = format!(in alloc; "event {number} site {site}")?;
     let text = format!(in alloc; "op {taken}")?;
-    write_two_columns(name.as_bytes(), text.as_bytes(), out)?;
-    write_took(alloc, took, doc, out)
+    write_two_columns(name.as_bytes(), text.as_bytes(), out)
+}
+
+fn write_take(
+    alloc: Global,
+    session: &Session,
+    number: u32,
+    site: u32,
+    taken: u32,
+    took: &Took,
+    out: &mut Vec<u8>,
+) -> Result<(), NoMemory>
+    requires is_open { (view_of session.now).is_open ≡ true }
+    requires site { IsSite (data_in (view_of session.now)).sites site }
+    ensures { OnOk result (out.new.items
+        ≡ out.old.items ++ take_text (view_of session.now) number site taken took.now) }
+{
+    write_taken(alloc, number, site, taken, out)?;
+    write_all_carried(alloc, session, site, took, out)?;
+    write_took(alloc, took, session.doc(site), out)
 }
 
 // An operation is not made; want of memory is passed on.
@@ -174,7 +310,7 @@ fn take(
 {
     match session.take(site, taken) {
         Ok(took) => {
-            write_take(alloc, number, site, taken, &took, session.doc(site), out)?;
+            write_take(alloc, session, number, site, taken, &took, out)?;
             Ok(true)
         }
         Err(why) => {
@@ -225,7 +361,8 @@ fn run_events(
 }
 
 /// Writes what happens in a session, event by event: what is made, and of what is taken whether it is integrated, with
-/// held ones after it, or held, or a repeat; and the document after it.
+/// held ones after it, or held, or a repeat; of each operation that is integrated, over what it is carried, with the case
+/// that is taken of each transformation; and the document after it.
 pub fn trace_session(
     alloc: Global,
     rules: &Rules,

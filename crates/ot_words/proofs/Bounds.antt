@@ -18,7 +18,7 @@ use Rattle.fn_rules.specs.declared.function.Level.{Level}
 use Rattle.fn_rules.specs.Functions.{is_declared}
 use Rattle.fn_rules.specs.declared.limits.TheConstants.{MOST_ROUNDS}
 use Rattle.ot_words.specs.Commands.{Asked, Prove, Settle, Check, Integrate, Replay, Hub, Audit, Same, Reverse, Least}
-use Rattle.ot_words.specs.Commands.{Bound, Confirm, Template, Drill, Explain, Trace}
+use Rattle.ot_words.specs.Commands.{Bound, Confirm, Template, Drill, Explain, Mend, Trace}
 use Rattle.ot_words.specs.declared.command.TraceKind.{TraceKind}
 use Rattle.clap_words.specs.Found.{found_by}
 use Rattle.ot_words.specs.Words.{IsWithinBounds, asked_by, audit_in, deciding_app, decision_by, decision_in, drill_app}
@@ -26,6 +26,7 @@ use Rattle.ot_words.specs.Words.{drill_by, drill_in, explain_by, explain_in, fla
 use Rattle.ot_words.specs.Words.{level_by, most_questions, most_settling_questions, name_by, names_by, number_by}
 use Rattle.ot_words.specs.Words.{of_two, prove_in, settle_in, trace_app, trace_by, trace_in, trace_kind, two_in}
 use Rattle.ot_words.specs.Words.{values_in, head_in, kind_named, mode_named, no_kinds, template_app, template_by}
+use Rattle.ot_words.specs.Words.{mend_app, mend_by, mend_in, most_edits, most_members}
 use Rattle.ot_words.specs.Words.{template_in, with_further, with_kind, with_named, with_new}
 
 number_within : (most : ℕ) (text : List ℕ) (n : ℕ) → number_by most text ≡ Some n → n ≤ most
@@ -139,6 +140,30 @@ module _ (most : ℕ) (Asks : Level → ℕ → List ℕ → Asked)
           asked_is_within (level_by (first_of (codes "tp1") rows))
           (option_and_then (number_by most) (first_of (codes "budget") rows))
           (first_of (codes "function") rows) (found_within most (first_of (codes "budget") rows))
+
+mend_is_within :
+    (edits : Option ℕ) (level : Level) (budget : Option ℕ) (file : Option (List ℕ))
+    → ((e : ℕ) → edits ≡ Some e → e ≤ most_edits) → ((b : ℕ) → budget ≡ Some b → b ≤ most_members)
+    → IsWithin (option_and_then (λ e. option_map (λ (found : Level × ℕ × List ℕ). Mend found.0 e found.1 found.2)
+    (option_and_then (λ b. option_map (λ name. (level, b, name)) file) budget)) edits)
+mend_is_within None level budget file few within = none_is_within
+mend_is_within (Some e) level None file few within = none_is_within
+mend_is_within (Some e) level (Some b) None few within = none_is_within
+mend_is_within (Some e) level (Some b) (Some name) few within =
+    some_is_within (Mend level e b name) (few e refl, within b refl)
+
+mends_are_within : (words : List (List ℕ)) → IsWithin (mend_in words)
+unfolding mend_in
+mends_are_within words = go (found_by mend_app words)
+  where
+    go : (found : Option (List Row)) → IsWithin (option_and_then mend_by found)
+    go None = none_is_within
+    go (Some rows) =
+        mend_is_within (option_and_then (number_by most_edits) (first_of (codes "edits") rows))
+        (level_by (first_of (codes "tp1") rows)) (option_and_then (number_by most_members)
+        (first_of (codes "budget") rows)) (first_of (codes "function") rows)
+        (found_within most_edits (first_of (codes "edits") rows))
+        (found_within most_members (first_of (codes "budget") rows))
 
 leasts_are_within : (words : List (List ℕ)) → IsWithin (least_in words)
 unfolding least_in
@@ -270,10 +295,11 @@ within_bounds (word ∷ words) =
     (decisions_are_within most_questions Prove (λ level b name few. few) (codes "prove") (codes "1000000") words)
     (one_of (bytes_eq word (codes "settle")) (settle_in words) _
     (decisions_are_within most_settling_questions Settle (λ level b name few. few) (codes "settle") (codes "30000000")
-    words) (one_of (bytes_eq word (codes "explain")) (explain_in words) _ (explains_are_within words)
+    words) (one_of (bytes_eq word (codes "mend")) (mend_in words) _ (mends_are_within words)
+    (one_of (bytes_eq word (codes "explain")) (explain_in words) _ (explains_are_within words)
     (one_of (bytes_eq word (codes "trace")) (trace_in words) _ (traces_are_within words)
     (one_of (bytes_eq word (codes "audit")) (audit_in words) _ (names_are_within Audit (λ n. tt) (name_by
     (codes "audit") words)) (one_of (bytes_eq word (codes "least")) (least_in words) _ (leasts_are_within words)
     (one_of (bytes_eq word (codes "template")) (template_in words) _ (templates_are_within words)
     (one_of (bytes_eq word (codes "drill")) (drill_in words) (two_in word words) (drills_are_within words)
-    (twos_are_within word (names_by word words)))))))))
+    (twos_are_within word (names_by word words))))))))))

@@ -4,9 +4,11 @@ use Rattle.clap.proofs.OnLiterals.{clap_on_literals}
 use Rattle.ot_model.specs.declared.op.Mode.TheVariants.{Plain, Tomb}
 use Rattle.fn_rules.specs.declared.function.Level.TheVariants.{Tp1, Tp2}
 use Rattle.clap_words.specs.Found.{found_by}
-use Rattle.ot_words.specs.Commands.{Prove, Settle, Check, Integrate, Audit, Same, Least, Template, Explain, Trace}
+use Rattle.ot_words.specs.Commands.{Prove, Settle, Check, Integrate, Audit, Same, Least, Template, Explain, Mend}
+use Rattle.ot_words.specs.Commands.{Trace}
 use Rattle.ot_words.specs.declared.command.TraceKind.TheVariants as traces
-use Rattle.ot_words.specs.Words.{asked_by, decision_by, explain_in, least_in, name_by, names_by, template_in, trace_in}
+use Rattle.ot_words.specs.Words.{asked_by, decision_by, explain_in, least_in, mend_in, name_by, names_by, template_in}
+use Rattle.ot_words.specs.Words.{trace_in}
 
 -- two file names, of which the empty word and `-` are such
 two_names : asked_by (codes "check" ∷ codes "a" ∷ codes "b" ∷ []) ≡ Some (Check (codes "a") (codes "b"))
@@ -189,3 +191,22 @@ no_kind = refl
 no_such_mode : asked_by (codes "template" ∷ codes "text" ∷ codes "ins" ∷ []) ≡ None
 unfolding clap_on_literals template_in found_by
 no_such_mode = refl
+
+-- `mend` by two edits, where the words say nothing
+mend_two : asked_by (codes "mend" ∷ codes "a" ∷ []) ≡ Some (Mend Tp2 2 1000000 (codes "a"))
+unfolding clap_on_literals mend_in found_by
+mend_two = refl
+
+mend_three :
+    asked_by (codes "mend" ∷ codes "--tp1" ∷ codes "--edits" ∷ codes "3" ∷ codes "--budget=7" ∷ codes "a" ∷ [])
+    ≡ Some (Mend Tp1 3 7 (codes "a"))
+unfolding clap_on_literals mend_in found_by
+mend_three = refl
+
+mend_four : asked_by (codes "mend" ∷ codes "--edits" ∷ codes "4" ∷ codes "a" ∷ []) ≡ None
+unfolding clap_on_literals mend_in found_by
+mend_four = refl
+
+mend_none : asked_by (codes "mend" ∷ codes "--edits=0" ∷ codes "a" ∷ []) ≡ None
+unfolding clap_on_literals mend_in found_by
+mend_none = refl

@@ -11,6 +11,9 @@ pub data Asked : Type 0 where
   Prove : Level → ℕ → List ℕ → Asked
   -- the same, by a proof with lemmas
   Settle : Level → ℕ → List ℕ → Asked
+  -- at a level, by so many edits at the most, where no number of edits leads to more functions than this budget, of a
+  -- function's file: the fewest edits are looked for that make the function right
+  Mend : Level → ℕ → ℕ → List ℕ → Asked
   -- at a level, of a function's file: why the function has what the level says, or where it breaks it
   Explain : Level → List ℕ → Asked
   -- of a function's file and a certificate's file: the certificate is judged
@@ -45,6 +48,7 @@ pub data Asked : Type 0 where
 abbrev pub asked_of : Command → Asked
 asked_of (rust.Prove level budget function) = Prove level budget function.now
 asked_of (rust.Settle level budget function) = Settle level budget function.now
+asked_of (rust.Mend level edits budget function) = Mend level edits budget function.now
 asked_of (rust.Explain level function) = Explain level function.now
 asked_of (rust.Check function certificate) = Check function.now certificate.now
 asked_of (rust.Integrate function case) = Integrate function.now case.now

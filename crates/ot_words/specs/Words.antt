@@ -20,7 +20,7 @@ use Rattle.fn_rules.specs.declared.function.Level.TheVariants.{Tp1, Tp2}
 use Rattle.fn_rules.specs.declared.limits.TheConstants.{MOST_ROUNDS}
 use Rattle.fn_rules.specs.Functions.{is_declared}
 use Rattle.ot_words.specs.Commands.{Asked, Prove, Settle, Check, Integrate, Replay, Hub, Audit, Same, Reverse, Least}
-use Rattle.ot_words.specs.Commands.{Bound, Confirm, Template, Drill, Explain, Trace}
+use Rattle.ot_words.specs.Commands.{Bound, Confirm, Template, Drill, Explain, Mend, Trace}
 use Rattle.ot_words.specs.declared.command.TraceKind.{TraceKind}
 use Rattle.ot_words.specs.declared.command.TraceKind.TheVariants as traces
 
@@ -53,6 +53,14 @@ most_settling_questions = 100000000
 abbrev pub settling_questions : ℕ
 settling_questions = 30000000
 
+-- the most edits of which `mend` may look for the fewest
+abbrev pub most_edits : ℕ
+most_edits = 3
+
+-- the most functions to which a number of edits may lead that `mend` may be allowed to look at
+abbrev pub most_members : ℕ
+most_members = 1000000000
+
 -- an option of a name that is given or not
 abbrev pub flag_rule : List ℕ → Rule
 flag_rule name = record (new_rule name) { long = Some name; action = Some SetTrue }
@@ -66,6 +74,15 @@ budget_rule most otherwise =
       defaults = otherwise ∷ [];
     }
 
+-- the option `--edits N`, whose number clap reads, and 2 where the words do not say
+abbrev pub edits_rule : Rule
+edits_rule =
+    record (new_rule (codes "edits")) {
+      long = Some (codes "edits");
+      parser = Some (Unsigned 1 most_edits);
+      defaults = codes "2" ∷ [];
+    }
+
 -- the number of `drill`
 abbrev pub number_rule : Rule
 number_rule = record (new_rule (codes "number")) { required = true; parser = Some (Unsigned 1 MOST_ROUNDS) }
@@ -76,6 +93,16 @@ abbrev pub deciding_app : List ℕ → ℕ → List ℕ → App
 deciding_app name most otherwise =
     with_rule (with_rule (with_rule (bare_app name) (flag_rule (codes "tp1"))) (budget_rule most otherwise))
     (required_rule (codes "function"))
+
+-- the clap command `mend`: three options
+abbrev pub mend_options : App
+mend_options =
+    with_rule (with_rule (with_rule (bare_app (codes "mend")) (flag_rule (codes "tp1"))) edits_rule)
+    (budget_rule most_members (codes "1000000"))
+
+-- and a file name
+abbrev pub mend_app : App
+mend_app = with_rule mend_options (required_rule (codes "function"))
 
 -- the clap command of a name that takes one option and a file name
 abbrev pub flagged_app : List ℕ → List ℕ → App
@@ -154,6 +181,15 @@ abbrev pub settle_in : List (List ℕ) → Option Asked
 settle_in words =
     option_map (λ found. Settle found.0 found.1 found.2)
     (decision_by (codes "settle") most_settling_questions (codes "30000000") words)
+
+-- the level, how many edits, the budget and the name that are found
+abbrev pub mend_by : List Row → Option Asked
+mend_by rows =
+    option_and_then (λ edits. option_map (λ found. Mend found.0 edits found.1 found.2) (decision_in most_members rows))
+    (option_and_then (number_by most_edits) (first_of (codes "edits") rows))
+
+unfoldable pub mend_in : List (List ℕ) → Option Asked
+mend_in words = option_and_then mend_by (found_by mend_app words)
 
 -- the option and the name that are found
 abbrev pub least_by : List Row → Option Asked
@@ -271,18 +307,20 @@ asked_by [] = None
 asked_by (word ∷ words) =
     if bytes_eq word (codes "prove") then prove_in words
     else (if bytes_eq word (codes "settle") then settle_in words
+    else (if bytes_eq word (codes "mend") then mend_in words
     else (if bytes_eq word (codes "explain") then explain_in words
     else (if bytes_eq word (codes "trace") then trace_in words
     else (if bytes_eq word (codes "audit") then audit_in words
     else (if bytes_eq word (codes "least") then least_in words
     else (if bytes_eq word (codes "template") then template_in words
     else (if bytes_eq word (codes "drill") then drill_in words
-    else two_in word words)))))))
+    else two_in word words))))))))
 
 -- the number that is asked for is within its bounds, and the head has a kind
 abbrev pub IsWithinBounds : Asked → Type 0
 IsWithinBounds (Prove level budget function) = budget ≤ most_questions
 IsWithinBounds (Settle level budget function) = budget ≤ most_settling_questions
+IsWithinBounds (Mend level edits budget function) = (edits ≤ most_edits) × (budget ≤ most_members)
 IsWithinBounds (Template level head) = list_any (is_declared head) KINDS ≡ true
 IsWithinBounds (Drill number) = number ≤ MOST_ROUNDS
 IsWithinBounds asked = Unit {0}

@@ -41,6 +41,21 @@ pub enum Command<'a> {
         function: &'a str,
     },
 
+    /// The fewest edits are looked for that make a function right.
+    Mend {
+        /// The level.
+        level: Level,
+
+        /// How many edits there may be.
+        edits: u32,
+
+        /// How many functions may be looked at that so many edits lead to.
+        budget: u64,
+
+        /// The name of the function's file.
+        function: &'a str,
+    },
+
     /// It is told why a function has the properties of a level, or where it breaks one.
     Explain {
         /// The level.

@@ -10,7 +10,7 @@ ghost use Rattle.ot_words.specs.Words.{flagged_app, is_given, trace_app, trace_b
 ghost use Rattle.ot_words.specs.Words.{least_by, least_in, level_by, number_by, number_rule, of_two, one_file};
 ghost use Rattle.clap.specs.Words.{new_rule};
 ghost use Rattle.ot_words.specs.Words.{head_in, kind_named, mode_named, no_kinds, template_app, template_by};
-ghost use Rattle.ot_words.specs.Words.{template_options};
+ghost use Rattle.ot_words.specs.Words.{edits_rule, mend_app, mend_by, mend_in, mend_options, template_options};
 ghost use Rattle.ot_words.specs.Words.{template_in, with_further, with_kind, with_named, with_new};
 ghost use Rattle.ot_words.specs.Words.{prove_in, required_rule, settle_in, two_files, two_in, values_in};
 
@@ -31,6 +31,12 @@ pub const SETTLING_QUESTIONS: u64 = 30_000_000;
 // The most questions that `settle` may be allowed.
 const MOST_SETTLING_QUESTIONS: u64 = 100_000_000;
 
+/// The most edits of which `mend` may look for the fewest.
+pub const MOST_EDITS: u64 = 3;
+
+// The most functions to which a number of edits may lead that `mend` may be allowed to look at.
+const MOST_MEMBERS: u64 = 1_000_000_000;
+
 // An option that is given or not.
 fn flag_option(alloc: Global, name: &str) -> Arg<'_>
     ensures rule { rule_of result ≡ flag_rule name.entry.now }
@@ -48,6 +54,17 @@ fn budget_option<'a>(alloc: Global, most: u64, otherwise: &'a str) -> Arg<'a>
         .long("budget")
         .value_parser(ValueParser::unsigned(1, most))
         .default_value(otherwise)
+}
+
+// The option `--edits N`.
+fn edits_option<'a>(alloc: Global) -> Arg<'a>
+    ensures rule { rule_of result ≡ edits_rule }
+    ensures local { result.global ≡ false }
+{
+    Arg::new(alloc, "edits")
+        .long("edits")
+        .value_parser(ValueParser::unsigned(1, MOST_EDITS))
+        .default_value("2")
 }
 
 // An argument that has to be there, as the name of a file.
@@ -79,6 +96,22 @@ fn deciding_app<'a>(
     let with_level = bare_app(alloc, name).arg(flag_option(alloc, "tp1"))?;
     let with_options = with_level.arg(budget_option(alloc, most, otherwise))?;
     with_options.arg(required_argument(alloc, "function"))
+}
+
+// The options of `mend`.
+fn mend_options<'a>(alloc: Global) -> Result<clap::Command<'a>, NoMemory>
+    ensures { IfOk result (λ c. app_of c ≡ mend_options) }
+{
+    let with_level = bare_app(alloc, "mend").arg(flag_option(alloc, "tp1"))?;
+    let with_edits = with_level.arg(edits_option(alloc))?;
+    with_edits.arg(budget_option(alloc, MOST_MEMBERS, "1000000"))
+}
+
+// The clap command `mend`: three options, and a file name.
+fn mend_app<'a>(alloc: Global) -> Result<clap::Command<'a>, NoMemory>
+    ensures { IfOk result (λ c. app_of c ≡ mend_app) }
+{
+    mend_options(alloc)?.arg(required_argument(alloc, "function"))
 }
 
 // The clap command of a name that takes one option and a file name.
@@ -232,6 +265,31 @@ fn settle_in<'a>(alloc: Global, words: &'a [String]) -> Result<Option<Command<'a
             budget,
             function,
         })),
+        None => Ok(None),
+    }
+}
+
+// How many edits, and what else clap finds.
+fn mend_by<'a>(matches: &ArgMatches<'a>) -> Option<Command<'a>>
+    ensures { option_map asked_of result ≡ mend_by (rows_of (found_of matches.now)) }
+{
+    let edits = number_by(MOST_EDITS, value_of(matches, "edits")?)?;
+    let (level, budget, function) = decision_in(MOST_MEMBERS, matches)?;
+    Some(Command::Mend {
+        level,
+        edits: edits as u32,
+        budget,
+        function,
+    })
+}
+
+// `mend [--tp1] [--edits N] [--budget M] FUNCTION`
+#[tactic(auto, unfolding(crate::specs::Words::mend_in))]
+fn mend_in<'a>(alloc: Global, words: &'a [String]) -> Result<Option<Command<'a>>, NoMemory>
+    ensures { IfOk result (λ command. option_map asked_of command ≡ mend_in (map string_bytes words.entry.now)) }
+{
+    match matches_in(mend_app(alloc)?, words)? {
+        Some(matches) => Ok(mend_by(&matches)),
         None => Ok(None),
     }
 }
@@ -554,6 +612,7 @@ pub fn read_words<'a>(alloc: Global, words: &'a [String]) -> Result<Option<Comma
     match name.as_str() {
         "prove" => prove_in(alloc, arguments),
         "settle" => settle_in(alloc, arguments),
+        "mend" => mend_in(alloc, arguments),
         "explain" => explain_in(alloc, arguments),
         "trace" => trace_in(alloc, arguments),
         "audit" => audit_in(alloc, arguments),

@@ -31,6 +31,8 @@ mod least;
 #[cfg(test)]
 mod lists;
 #[cfg(test)]
+mod mendings;
+#[cfg(test)]
 mod operations;
 #[cfg(test)]
 mod outside;

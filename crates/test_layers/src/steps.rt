@@ -4,7 +4,8 @@ use case_json::{Trial, trial_read};
 use fn_rules::{Level, Rules};
 use ot_integrate::are_integrable;
 use ot_model::{Cell, Doc, Op};
-use ot_steps::{both_ways, write_case_line, write_ways};
+use ot_steps::{write_case_line, write_ways};
+use ot_ways::both_ways;
 use std::alloc::{AllocError, Global};
 
 const LINES: &str = "left\n\

@@ -1,8 +1,8 @@
 //! What happens in a case, a hub and a session under one function, step by step; and where the fault of a case is.
 use crate::whole_functions::sites;
 use case_json::{
-    CaseError, EventCause, FaultPath, Layout, event_path, fault_path, hub_read, line_column,
-    script_read, trial_read, value_offset, write_cause, write_fault,
+    CaseError, EventCause, Layout, event_path, fault_path, hub_read, line_column_of, script_read,
+    trial_read, write_cause, write_fault,
 };
 use fn_rules::Rules;
 use ot_trace::{NoMemory, trace_case, trace_hub, trace_session};
@@ -84,13 +84,11 @@ fn fault_lines(alloc: Global, rules: &Rules, out: &mut Vec<u8>) -> Result<(), No
         return Ok(());
     };
     let path = fault_path(alloc, Layout::Case, bytes, &fault)?;
-    let at = place_of(bytes, path).map(|offset| line_column(bytes, offset));
+    let at = match &path {
+        Some(path) => line_column_of(bytes, path),
+        None => None,
+    };
     write_fault(alloc, path, at, &fault, out)
-}
-
-// Where the value at a path begins.
-fn place_of(bytes: &[u8], path: Option<FaultPath>) -> Option<usize> {
-    value_offset(bytes, &path?)
 }
 
 // Whether each call writes its lines.

@@ -1,14 +1,15 @@
 //! The lines that say why a function has the properties of a level, or where it breaks one.
 ghost use Rattle.std.specs.Prelude.{◌≡◌, ◌++◌, [], OnOk};
-ghost use Rattle.ot_replies.specs.ExplainTexts.{before_text, explanation_status, explanation_text, ground_text};
-ghost use Rattle.ot_replies.specs.ExplainTexts.{breaks_text, holds_text, misread_text, open_text, unsettled_text};
+ghost use Rattle.ot_replies.specs.ExplainTexts.{before_text, breaks_text, counts_text, explanation_status};
+ghost use Rattle.ot_replies.specs.ExplainTexts.{explanation_text, ground_text, holds_text, misread_text, open_text};
+ghost use Rattle.ot_replies.specs.ExplainTexts.{unsettled_text};
 
-use super::appending::append_bytes;
+use super::appending::{append_bytes, append_text};
 use super::counters::write_counter;
 use super::faults::write_text_fault;
 use super::level_word;
 use super::lines::{write_cause_line, write_number_line, write_word_line};
-use crate::reply::{Explanation, Ground, Subject, Unsettled};
+use crate::reply::{Attempt, Explanation, Ground, Subject, Unsettled};
 use fn_rules::Level;
 use fn_text::TextFault;
 use ot_counter::Counter;
@@ -22,7 +23,7 @@ pub(crate) fn explanation_status(explanation: &Explanation) -> u8
     match explanation {
         Explanation::Holds(..) => 0,
         Explanation::Breaks(..) => 1,
-        Explanation::Open(_) => 8,
+        Explanation::Open(..) => 8,
         Explanation::Misread(..) => 3,
     }
 }
@@ -76,24 +77,47 @@ fn write_breaks(
     append_bytes(steps, out)
 }
 
-// Writes how far `settle` came.
-fn write_unsettled(cause: Unsettled, out: &mut Vec<u8>) -> Result<(), NoMemory>
+// Writes why `settle` said nothing.
+fn write_unsettled(alloc: Global, cause: Unsettled, out: &mut Vec<u8>) -> Result<(), NoMemory>
     ensures { OnOk result (out.new.items ≡ out.old.items ++ unsettled_text cause) }
 {
     match cause {
-        Unsettled::Questions => append_bytes(b"settle: 30000000 questions\n", out),
-        Unsettled::Bytes => append_bytes(b"settle: 83886080 bytes\n", out),
+        Unsettled::Questions(most) => write_cause_line(alloc, "settle:", most, "questions", out),
+        Unsettled::Bytes(most) => write_cause_line(alloc, "settle:", most, "bytes", out),
         Unsettled::NoProof => append_bytes(b"settle: no proof\n", out),
     }
 }
 
-// Writes how far `prove` and `settle` came.
-fn write_open(cause: Unsettled, out: &mut Vec<u8>) -> Result<(), NoMemory>
-    requires { out.old.items ≡ [] }
-    ensures { OnOk result (out.new.items ≡ open_text cause) }
+// Writes how far `settle` came.
+fn write_counts(
+    alloc: Global,
+    asked: u64,
+    again: u64,
+    bytes: u64,
+    out: &mut Vec<u8>,
+) -> Result<(), NoMemory>
+    ensures { OnOk result (out.new.items ≡ out.old.items ++ counts_text asked again bytes) }
 {
-    append_bytes(b"spent\nprove: 1000000 questions\n", out)?;
-    write_unsettled(cause, out)
+    append_text(
+        format!(in alloc; "settle: asked {asked}, again {again}, bytes {bytes}\n")?,
+        out,
+    )
+}
+
+// Writes that nothing is said, how many questions `prove` may ask, and why `settle` said nothing.
+fn write_open(
+    alloc: Global,
+    most: u64,
+    attempt: &Attempt,
+    out: &mut Vec<u8>,
+) -> Result<(), NoMemory>
+    requires { out.old.items ≡ [] }
+    ensures { OnOk result (out.new.items ≡ open_text most attempt.now) }
+{
+    append_bytes(b"spent\n", out)?;
+    write_cause_line(alloc, "prove:", most, "questions", out)?;
+    write_unsettled(alloc, attempt.cause, out)?;
+    write_counts(alloc, attempt.asked, attempt.again, attempt.bytes, out)
 }
 
 // Writes the line of a fault, and behind it what helps to mend it.
@@ -122,7 +146,7 @@ pub(crate) fn write_explanation(
     match explanation {
         Explanation::Holds(level, basis) => write_holds(alloc, *level, *basis, out),
         Explanation::Breaks(counter, steps) => write_breaks(alloc, counter, steps.as_slice(), out),
-        Explanation::Open(cause) => write_open(*cause, out),
+        Explanation::Open(most, attempt) => write_open(alloc, *most, attempt, out),
         Explanation::Misread(fault, hint) => write_misread(alloc, fault, hint.as_slice(), out),
     }
 }

@@ -50,6 +50,7 @@ returns-clause-reading g c =
       | else-rests_on_the_end-via-else-rests_on_the_end w ↦ rw w.feed-is kept.reading
     ]
 
+-- a judgement that rests on the end, of a file that goes on: it is too long
 pub returns-then-branch-clause-ok : goal.returns-then-branch-clause-ok
 returns-then-branch-clause-ok g c =
     let judged = c.judge-judgement in

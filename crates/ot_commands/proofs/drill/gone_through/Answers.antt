@@ -9,6 +9,7 @@ use Rattle.ot_commands.specs.Replay.{IsFirstPair}
 use Rattle.ot_commands.proofs.Agreeing.{none_differ}
 use Rattle.ot_commands.proofs.drill.gone_through.Goals as goal
 
+-- the function of a workload has both properties, so no two sites differ
 pub returns-clause-agree : goal.returns-clause-agree
 returns-clause-agree c =
     let v = view_of c.in_ok-played.played.session in

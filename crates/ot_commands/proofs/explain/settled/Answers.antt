@@ -4,18 +4,21 @@ use Rattle.fn_rules.specs.Rules.{function_of}
 use Rattle.ot_commands.specs.Explain.{ExplainsSettled, IsReplyToUnproved}
 use Rattle.ot_commands.proofs.explain.settled.Goals as goal
 
+-- the reply explains what `settle` came to
 pub returns : goal.returns
 returns c =
     let f = function_of c.args.rules.now in
     let came = c.in_ok-settlement in
-    IfOk-weaker c.explain_settled.result (ExplainsSettled f c.args.level came.settlement.settled)
+    let found = came.settlement in
+    IfOk-weaker c.explain_settled.result (ExplainsSettled f c.args.level found.asked found.written found.settled)
     (IsReplyToUnproved f c.args.level)
     (λ r explains. (
-      came.settlement.settled,
-      came.settlement.asked,
-      came.settlement.over,
-      came.settlement.written,
+      found.settled,
+      found.asked,
+      found.over,
+      found.written,
       came.ensures.settled,
+      (came.ensures.asked, came.ensures.again),
       came.ensures.spent,
       explains,
     )) c.explain_settled.ensures

@@ -12,6 +12,7 @@ none_is_zero found none is =
     let zero : differ_status found ≡ 0 = ap (λ (o : Option ℕ). differ_status o) none in
     absurd (omega (arith, sym zero ∙ is))
 
+-- under TP1, where characters may be the same, no client differs from the server, so the reply is not 1
 pub returns-clause-steady : goal.returns-clause-steady
 returns-clause-steady c f =
     let hub = hub_view_of c.args.hub.now in

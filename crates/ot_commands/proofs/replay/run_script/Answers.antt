@@ -28,6 +28,7 @@ pub ended-requires : goal.ended-requires
 ended-requires c =
     subst (λ (n : ℕ). n ≤ MAX_SITES) (sym (c.in-Ok.ensures.sites ∙ c.in_ok-session.ensures.count)) c.requires.few_sites
 
+-- the reply is that to the script, run from a new session
 pub returns-in-Ok-clause-reply : goal.returns-in-Ok-clause-reply
 returns-in-Ok-clause-reply c =
     let begun = view_of c.in_ok-session.session in

@@ -1,4 +1,4 @@
-use Rattle.std.proofs.Common.{◌≤◌, ◌-◌, length, take, drop, map, ap, sym, ◌∙◌, arith, length-drop}
+use Rattle.std.proofs.Common.{◌≤◌, ◌-◌, length, drop, map, ap, sym, ◌∙◌, arith, length-drop}
 use Rattle.std.proofs.lemmas.List.{drop-map, take_all}
 use Rattle.fn_rules.specs.Functions.{case_of}
 use Rattle.ot_mend.proofs.editing.later_cases.Goals as goal

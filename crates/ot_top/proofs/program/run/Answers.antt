@@ -1,5 +1,5 @@
 -- What a reply that was written shows, by its status.
-use Rattle.std.proofs.Common.{◌≡◌, ℕ, ◌++◌, List, map}
+use Rattle.std.proofs.Common.{◌≡◌, ℕ, ◌++◌, List, map, refl}
 use Rattle.std.specs.Prelude.{string_bytes}
 use Rattle.ot_top.proofs.Bounded.{bounded, sought}
 use Rattle.ot_top.proofs.Confirmed.{confirmed_level}
@@ -8,7 +8,9 @@ use Rattle.ot_top.proofs.Followed.{followed}
 use Rattle.ot_top.proofs.Proving.{broken, counter_found, evidence_level}
 use Rattle.ot_top.proofs.Showing.{has_level}
 use Rattle.ot_top.proofs.Shows.{reply_known, shows}
-use Rattle.ot_top.proofs.Templated.{templated}
+use Rattle.ot_top.proofs.Mended.{mended}
+use Rattle.ot_top.proofs.Templated.{template_has_level, templated}
+use Rattle.ot_heads.specs.Templates.{template_of}
 use Rattle.ot_top.proofs.Told.{named, whole}
 use Rattle.ot_top.proofs.program.run.Goals as goal
 
@@ -37,6 +39,23 @@ returns-clause-shows g c =
     (confirmed_level confirms.tp1 confirms.tp2 confirms.one_outcome))
     (counter_found grammar.text grammar.valid counters.broken counters.by_the_cause c.failing_triples_show_tp1.ensures)
     c.texts_of_functions_are_read.ensures.read grammar.valid words holds c.write_answer.result is_written)
+    (mended c.question_lists_tell_where_plans_fail.ensures
+    (λ f valid. (c.pair_plans_mean_tp1.ensures.whole f valid).1)
+    (λ f valid. (c.triple_plans_mean_tp2.ensures.whole f valid).1)
+    (evidence_level (has_level laws.tp1 laws.tp2 laws.one_outcome)
+    (confirmed_level confirms.tp1 confirms.tp2 confirms.one_outcome)) c.members_are_made.ensures
+    (λ head. (c.the_test_decides_the_fact.ensures head).0)
+    (λ head is t keeps. c.plain_text_has_no_transformation.ensures head t is keeps)
+    (λ level head test. (
+      template_of head,
+      refl,
+      template_has_level (λ h. (c.the_test_decides_the_fact.ensures h).0)
+          (λ h. (c.the_test_decides_the_fact.ensures h).1)
+          (λ h is t keeps. c.plain_text_has_no_transformation.ensures h t is keeps)
+          c.templates_have_what_can_be_had.ensures.tp1 c.templates_have_what_can_be_had.ensures.tp2
+          c.both_properties_give_one_outcome.ensures grammar.text level head test,
+    ))
+    c.texts_of_functions_are_read.ensures.read grammar.valid words holds c.write_answer.result is_written)
     (templated (λ head. (c.the_test_decides_the_fact.ensures head).0)
     (λ head. (c.the_test_decides_the_fact.ensures head).1)
     (λ head is t keeps. c.plain_text_has_no_transformation.ensures head t is keeps)
@@ -54,6 +73,7 @@ returns-clause-shows g c =
     (λ r. followed grammar.text c.hubs_follow_their_logs.ensures.log c.hubs_follow_their_logs.ensures.clients
     words holds r is_written)
 
+-- status and text are those of a reply, and no status is above 10
 pub returns-clause-answered : goal.returns-clause-answered
 returns-clause-answered g c =
     record {

@@ -9,8 +9,8 @@ use Rattle.fn_rules.specs.Conditions.{IsWithin}
 use Rattle.fn_rules.specs.Rules.{function_of}
 use Rattle.ot_integrate.specs.Conditions.{most_cells, IsExecuted}
 use Rattle.fn_rules.specs.Transformation.{transform_of}
-use Rattle.ot_steps.specs.declared.one_step.Step.{Step}
-use Rattle.ot_steps.specs.Steps.{step_of}
+use Rattle.ot_ways.specs.declared.one_step.Step.{Step}
+use Rattle.ot_ways.specs.Steps.{step_of}
 use Rattle.ot_trace.specs.Steps.{steps_over}
 use Rattle.ot_trace.proofs.StepsOver.{steps-next, through-next}
 use Rattle.ot_trace.proofs.carrying.carry.Goals as goal

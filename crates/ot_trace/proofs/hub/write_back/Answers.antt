@@ -1,8 +1,7 @@
 use Rattle.std.proofs.Common.{◌++◌, List, ℕ, codes, ap, ◌∙◌}
 use Rattle.std.proofs.lemmas.Result.{IfOk-equal}
-use Rattle.fn_rules.specs.Rules.{function_of}
 use Rattle.ot_trace.specs.Columns.{columns}
-use Rattle.ot_steps.specs.StepTexts.{choice_text, result_text}
+use Rattle.ot_steps.specs.StepTexts.{result_text}
 use Rattle.ot_trace.proofs.hub.write_back.Goals as goal
 
 pub returns : goal.returns

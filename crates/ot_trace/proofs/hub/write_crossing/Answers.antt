@@ -2,9 +2,9 @@ use Rattle.std.proofs.Common.{◌++◌, List, ℕ, ap, ◌∙◌, append_assoc}
 use Rattle.fn_rules.specs.Functions.{Function}
 use Rattle.fn_rules.specs.Rules.{function_of}
 use Rattle.ot_hub.specs.declared.crossing.Crossing.{Crossing}
-use Rattle.ot_steps.specs.declared.one_step.Step.{Step}
+use Rattle.ot_ways.specs.declared.one_step.Step.{Step}
 use Rattle.ot_trace.specs.HubTexts.{back_line}
-use Rattle.ot_steps.specs.Steps.{step_of}
+use Rattle.ot_ways.specs.Steps.{step_of}
 use Rattle.ot_trace.specs.Texts.{step_line}
 use Rattle.ot_trace.proofs.hub.write_crossing.Goals as goal
 

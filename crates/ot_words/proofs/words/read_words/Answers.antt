@@ -11,5 +11,6 @@ returns-in_default-as_str c =
     subst (λ (o : Option Asked). IfOk c.two_in.result (λ command. option_map asked_of command ≡ o))
     (two_named string_bytes c.args.words.now c.name-item.result c.as_str.result.now
     c.in-len1-up.len_at_least c.name-item.is
-    c.as_str.ensures.value other.not-prove other.not-settle other.not-explain other.not-trace other.not-audit
+    c.as_str.ensures.value other.not-prove other.not-settle other.not-mend other.not-explain other.not-trace
+    other.not-audit
     other.not-least other.not-template other.not-drill) c.two_in.ensures

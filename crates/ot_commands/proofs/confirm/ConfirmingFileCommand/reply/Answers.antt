@@ -5,6 +5,7 @@ use Rattle.ot_commands.specs.Confirm.{IsReplyBy}
 use Rattle.ot_commands.proofs.Confirming.{reply_given, reply_told, when_ok}
 use Rattle.ot_commands.proofs.confirm.ConfirmingFileCommand.reply.Goals as goal
 
+-- the reply tells of the file what was read of it and how that was judged
 pub returns-clause-ok : goal.returns-clause-ok
 returns-clause-ok g c =
     let read = c.read_all-read in

@@ -1,0 +1,4 @@
+pub mod Candidates
+pub mod Firsts
+pub mod Mendings
+pub mod Scans

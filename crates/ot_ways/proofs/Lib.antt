@@ -1,0 +1,4 @@
+pub mod FirstCases
+pub mod SamePlaces
+pub mod Usable
+mod Examples
