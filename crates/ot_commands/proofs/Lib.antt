@@ -10,6 +10,7 @@ mod HubRunning
 pub mod HubStatus
 mod Judged
 mod Mending
+mod OneEnd
 mod PassedOn
 mod ReadCertificate
 mod Refusing

@@ -1,5 +1,6 @@
 pub mod Facts
 pub mod Load
+pub mod Found
 pub mod Mend
 pub mod Prove
 pub mod Settle

@@ -21,6 +21,7 @@ use Rattle.ot_replies.specs.declared.reply.Reply.{Reply}
 use Rattle.ot_replies.specs.declared.reply.Reply.TheVariants.{Mended, NotMended, Spent}
 use Rattle.ot_words.specs.Words.{most_questions}
 use Rattle.ot_commands.specs.Facts.{Facts, NothingMore, OneFunction}
+use Rattle.ot_commands.specs.Found.{LacksTp1}
 use Rattle.ot_commands.specs.Template.{has_none}
 
 -- what a verdict says of the level
@@ -29,9 +30,12 @@ decision_of (verdicts.Yes bytes asked) = decisions.Yes
 decision_of (verdicts.No ob answers why) = decisions.No
 decision_of verdicts.Spent = decisions.Spent
 
--- a function is decided by as many questions as `prove` is allowed where the words do not say
+-- a function is decided by as many questions as `prove` is allowed where the words do not say, or it lacks TP1 where
+-- another one lacked it
 abbrev pub IsDecidedSo : Level → Function → Decision → Type 0
-IsDecidedSo level f d = (verdict : Verdict) × IsDecidedAs f level most_questions verdict × (decision_of verdict ≡ d)
+IsDecidedSo level f d =
+    ((verdict : Verdict) × IsDecidedAs f level most_questions verdict × (decision_of verdict ≡ d))
+    ⊎ ((d ≡ decisions.No) × LacksTp1 f)
 
 -- the reply tells what mending a function came to: the text of the one that edits lead to, one after another; or that
 -- none of those of so many edits has the level; or that there are too many of them, or too many questions

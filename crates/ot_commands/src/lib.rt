@@ -20,6 +20,7 @@ pub mod check;
 pub mod confirm;
 pub mod drill;
 pub mod explain;
+mod found;
 mod halt;
 pub mod hub;
 pub mod integrate;

@@ -13,9 +13,13 @@ ghost use Rattle.ot_commands.specs.Given.{IsReplyOfGiven};
 ghost use Rattle.ot_commands.specs.Mend.{IsDecidedSo, IsReplyToMending, TellsMending, decision_of};
 ghost use Rattle.ot_commands.specs.Replies.{IsReplyTo};
 ghost use Rattle.fewest_edits.specs.Mendings.{IsMendedBy};
+ghost use Rattle.ot_decide.specs.Verdicts.{IsDecidedAs};
+ghost use Rattle.ot_words.specs.Words.{most_questions};
 
+use crate::found::Found;
 use crate::load::Stop;
 use crate::one_file::{FunctionCommand, reply_to_one};
+use crate::prove::counter_of;
 use crate::template::has_none;
 use fewest_edits::{Decider, Decision, Mending, mend_by};
 use fn_rules::{Level, Rules};
@@ -40,9 +44,41 @@ fn decision_of(verdict: &Verdict) -> Decision
     }
 }
 
-// Functions are decided as `prove` decides them.
+// Functions are decided as `prove` decides them. Where one of them lacked TP1, a later one is tried first.
 #[derive(Drop)]
-struct Prover;
+struct Prover {
+    found: Found,
+}
+
+impl Prover {
+    // Keeps the counterexample of a verdict.
+    fn note(
+        &mut self,
+        alloc: Global,
+        rules: &Rules,
+        level: Level,
+        verdict: &Verdict,
+    ) -> Result<(), NoMemory>
+        requires { IsDecidedAs (function_of rules.now) level most_questions verdict.now }
+    {
+        match verdict {
+            Verdict::No { ob, answers, why } => {
+                let counter = counter_of(alloc, rules, *ob, answers, *why)?;
+                self.found.keep(counter)
+            }
+            _ => Ok(()),
+        }
+    }
+
+    // Decides a function by its obligations.
+    fn prove(&mut self, alloc: Global, rules: &Rules, level: Level) -> Result<Decision, NoMemory>
+        ensures { IfOk result (IsDecidedSo level (function_of rules.now)) }
+    {
+        let verdict = prove_all(alloc, rules, level, MOST_QUESTIONS)?;
+        self.note(alloc, rules, level, &verdict)?;
+        Ok(decision_of(&verdict))
+    }
+}
 
 impl Decider for Prover {
     ghost use Rattle.ot_commands.specs.Mend.{IsDecidedSo};
@@ -50,8 +86,10 @@ impl Decider for Prover {
     ghost decides = { IsDecidedSo };
 
     fn decide(&mut self, alloc: Global, rules: &Rules, level: Level) -> Result<Decision, NoMemory> {
-        let verdict = prove_all(alloc, rules, level, MOST_QUESTIONS)?;
-        Ok(decision_of(&verdict))
+        if self.found.is_broken(alloc, rules)? {
+            return Ok(Decision::No);
+        }
+        self.prove(alloc, rules, level)
     }
 }
 
@@ -99,7 +137,10 @@ fn mended(
 ) -> Result<Reply, NoMemory>
     ensures { IfOk result (IsReplyToMending level most budget (function_of rules.now)) }
 {
-    let mending = mend_by(alloc, &mut Prover, rules, level, most, budget)?;
+    let mut prover = Prover {
+        found: Found::new(alloc),
+    };
+    let mending = mend_by(alloc, &mut prover, rules, level, most, budget)?;
     told(alloc, rules, level, most, budget, mending)
 }
 

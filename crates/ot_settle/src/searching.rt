@@ -1,5 +1,5 @@
 //! The search of obligations one after another.
-ghost use Rattle.std.specs.Prelude.{◌≡◌, ◌+◌, ◌<◌, ◌^◌, true, IsTrue, IfOk, length};
+ghost use Rattle.std.specs.Prelude.{◌≡◌, ℕ, ◌+◌, ◌<◌, ◌^◌, true, IsTrue, IfOk, length};
 ghost use Rattle.std.specs.List.{list_all};
 ghost use Rattle.fn_rules.specs.Obligations.{is_obligation};
 ghost use Rattle.fn_rules.specs.Rules.{function_of};
@@ -11,15 +11,16 @@ ghost use Rattle.ot_settle.specs.Endings.{IsFailingEnd};
 use crate::ended::FailingOb;
 use crate::text::Text;
 use crate::{FailingEnd, failing_end};
-use ask_core::NoMemory;
+use ask_core::{Asker, NoMemory};
 use bumpalo::Bump;
+use diff_graph::Lit;
 use fn_rules::{ObName, Rules};
 use ot_questions::Why;
 use plan_proofs::{Ended, FindingStarts, Questions, Searched, SpentCause, search_plan};
+use proof_search::Finder;
 use std::alloc::Global;
 
-// Searches the plan of an obligation, whose goals stand in the arena. Answers that lead to no end that fails are no way
-// on.
+// Searches the plan of an obligation, whose goals stand in the arena.
 fn search_in<'a>(
     alloc: Global,
     bump: &'a Bump,
@@ -33,18 +34,53 @@ fn search_in<'a>(
     ensures within { IfOk result (λ r. IsWithin r.asked budget) }
     ensures cause { IfOk result (λ r. SpendsOnlySo (MaySpend budget r.asked r.over (length bytes.new.items)) r.ended) }
 {
-    let mut asker = FindingStarts::new(alloc, bump, rules, ob);
+    search_by(
+        alloc,
+        FindingStarts::new(alloc, bump, rules, ob),
+        budget,
+        bytes,
+    )
+}
+
+// Searches the plan of an asker.
+fn search_by<A: Finder>(
+    alloc: Global,
+    asker: A,
+    budget: Questions,
+    bytes: &mut Vec<u8>,
+) -> Result<Searched<FailingEnd<A::Why>>, NoMemory>
+    ensures ended { IfOk result (λ r. FailsOnlySo (IsFailingEnd (A.root asker)) r.ended) }
+    ensures within { IfOk result (λ r. IsWithin r.asked budget) }
+    ensures cause { IfOk result (λ r. SpendsOnlySo (MaySpend budget r.asked r.over (length bytes.new.items)) r.ended) }
+{
+    let mut asker = asker;
     let found = search_plan(alloc, &mut asker, budget, bytes)?;
     let asked = found.asked;
     let over = found.over;
     let ended = found.ended;
     match ended {
         Ended::Shown => Ok(searched(Ended::Shown, asked, over)),
-        Ended::Fails(answers) => match failing_end(alloc, &mut asker, &answers)? {
-            Some(end) => Ok(searched(Ended::Fails(end), asked, over)),
-            None => Ok(searched(Ended::Spent(SpentCause::NoWay), asked, false)),
-        },
+        Ended::Fails(answers) => failed(alloc, &mut asker, &answers, asked, over),
         Ended::Spent(cause) => Ok(searched(Ended::Spent(cause), asked, over)),
+    }
+}
+
+// What a search came to that found answers. Where these lead to no end that fails, they are no way on.
+fn failed<A: Asker>(
+    alloc: Global,
+    asker: &mut A,
+    answers: &[Lit],
+    asked: Questions,
+    over: bool,
+) -> Result<Searched<FailingEnd<A::Why>>, NoMemory>
+    ensures ended { IfOk result (λ r. FailsOnlySo (IsFailingEnd (A.root asker.old)) r.ended) }
+    ensures asked { IfOk result (λ r. r.asked ≡ asked) }
+    ensures cause { (budget : Questions) (count : ℕ) → IfOk result (λ r.
+        SpendsOnlySo (MaySpend budget r.asked r.over count) r.ended) }
+{
+    match failing_end(alloc, asker, answers)? {
+        Some(end) => Ok(searched(Ended::Fails(end), asked, over)),
+        None => Ok(searched(Ended::Spent(SpentCause::NoWay), asked, false)),
     }
 }
 

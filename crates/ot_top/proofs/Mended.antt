@@ -46,6 +46,7 @@ use Rattle.ot_replies.specs.MendTexts.{not_mended_text}
 use Rattle.ot_replies.specs.Texts.{status_of, text_of}
 use Rattle.ot_words.specs.Commands.{Mend}
 use Rattle.ot_words.specs.Words.{most_questions}
+use Rattle.ot_commands.specs.Found.{LacksTp1}
 use Rattle.ot_commands.specs.Mend.{IsDecidedSo, IsReplyToMend, TellsMending, decision_of}
 use Rattle.ot_commands.specs.Template.{has_none}
 use Rattle.ot_top.specs.Evidence.{Certificate, Evidence, IsEvidence}
@@ -194,10 +195,16 @@ module _ (tell :
       λ has. not_all_hold tell f (obligations_of f.head level) lists _ (holding f level valid has) asked refuted.1.first
   verdict_so level f verdicts.Spent valid (lists, asked, many) = (lists, asked, many)
 
+  lacking_so : (level : Level) (f : Function) → LacksTp1 f → ¬ HasLevel f level
+  lacking_so Tp1 f (d, a, b, concurrent, apart) = λ has. apart (has d a b concurrent)
+  lacking_so Tp2 f (d, a, b, concurrent, apart) = λ has. apart (has.0 d a b concurrent)
+
   decided_so : (level : Level) (f : Function) (d : Decision) → IsTrue (is_valid f) → IsDecidedSo level f d
       → IsSo level f d
-  decided_so level f d valid (verdict, decided, same) =
+  decided_so level f d valid (inl (verdict, decided, same)) =
       subst (λ (x : Decision). IsSo level f x) same (verdict_so level f verdict valid decided)
+  decided_so level f d valid (inr (same, lacks)) =
+      subst (λ (x : Decision). IsSo level f x) (sym same) (lacking_so level f lacks)
 
   -- where no test says that there is none, and where one does
   module _ (are_made : MembersAreMade)

@@ -1,4 +1,4 @@
-//! The questions of a guard alone, asked and laid out. Those of obligations are rows of `test_commands`.
+//! The questions of a guard alone, asked and laid out. Those of obligations are rows of `questions`.
 ghost use Rattle.std.specs.Prelude.{IsTrue};
 ghost use Rattle.fn_rules.specs.Obligations.{is_obligation};
 ghost use Rattle.fn_rules.specs.Rules.{function_of};
@@ -30,70 +30,74 @@ fn asker_of_guard<'a>(bump: &'a Bump, rules: &'a Rules) -> Result<PathAsker<'a>,
     Ok(PathAsker::over(bump, rules, ObName::Pair(Kind::Del, Kind::Del), goal))
 }
 
-// Whether the guard is asked, and nothing behind yes.
-fn holds_after_yes(asker: &mut PathAsker<'_>) -> Result<bool, NoMemory> {
+// What stands behind one of the answers to a question, if the plan begins with one.
+fn behind_first<A: Asker>(
+    asker: &mut A,
+    answer: bool,
+) -> Result<Option<Turn<A::Node, A::Why>>, NoMemory> {
     let start = asker.start()?;
     match asker.turn(start)? {
-        Turn::Ask { lit, yes, .. } => {
-            let behind = asker.turn(yes)?;
-            Ok(lit == Lit { x: 3, y: 6, k: -1 } && matches!(behind, Turn::Holds))
-        }
-        _ => Ok(false),
+        Turn::Ask { yes, no, .. } => Ok(Some(asker.turn(if answer { yes } else { no })?)),
+        _ => Ok(None),
     }
 }
 
-// Whether nothing is asked behind no.
-fn fails_after_no(asker: &mut PathAsker<'_>) -> Result<bool, NoMemory> {
+// The question that the plan begins with, where it is at hand.
+fn first_at_hand<A: Asker>(asker: &mut A) -> Result<Option<Lit>, NoMemory> {
     let start = asker.start()?;
-    match asker.turn(start)? {
-        Turn::Ask { no, .. } => {
-            let behind = asker.turn(no)?;
-            Ok(matches!(behind, Turn::Fails(Why::Undefined)))
-        }
-        _ => Ok(false),
+    match asker.look(start) {
+        Some((lit, _)) => Ok(Some(lit)),
+        None => Ok(None),
     }
 }
 
-fn is_guard_asked(asker: &mut PathAsker<'_>) -> Result<bool, NoMemory> {
-    Ok(holds_after_yes(asker)? && fails_after_no(asker)?)
+// The question that the plan begins with.
+fn first_asked<A: Asker>(asker: &mut A) -> Result<Option<Lit>, NoMemory> {
+    let start = asker.start()?;
+    match asker.turn(start)? {
+        Turn::Ask { lit, .. } => Ok(Some(lit)),
+        _ => Ok(None),
+    }
 }
 
-fn asks_a_guard(rt: &impl Abort, alloc: Global) -> Result<bool, NoMemory> {
+// Whether the guard is asked, and nothing behind its answers: yes holds, and no fails.
+fn is_guard_asked<A: Asker>(asker: &mut A) -> Result<bool, NoMemory> {
+    let is_first = first_asked(asker)? == Some(Lit { x: 3, y: 6, k: -1 });
+    let holds = matches!(behind_first(asker, true)?, Some(Turn::Holds));
+    let fails = matches!(behind_first(asker, false)?, Some(Turn::Fails(_)));
+    Ok(is_first && holds && fails && asker.names() == 9)
+}
+
+fn asks_a_guard(alloc: Global, rules: &Rules) -> Result<bool, NoMemory>
+    requires { IsTrue (is_obligation (function_of rules.now).head (ObName.Pair Kind.Del Kind.Del)) }
+{
+    let bump = Bump::new(alloc);
+    let mut asker = asker_of_guard(&bump, rules)?;
+    is_guard_asked(&mut asker)
+}
+
+fn is_first_at_hand<A: Asker>(asker: &mut A) -> Result<bool, NoMemory> {
+    let at_hand = first_at_hand(asker)?;
+    Ok(at_hand.is_some() && at_hand == first_asked(asker)?)
+}
+
+fn looks_at_a_pair(alloc: Global, rules: &Rules) -> Result<bool, NoMemory>
+    requires { IsTrue (is_obligation (function_of rules.now).head (ObName.Pair Kind.Del Kind.Del)) }
+{
+    let bump = Bump::new(alloc);
+    let mut asker = PathAsker::new(&bump, rules, ObName::Pair(Kind::Del, Kind::Del));
+    is_first_at_hand(&mut asker)
+}
+
+fn are_asked(rt: &impl Abort, alloc: Global) -> Result<bool, NoMemory> {
     let rules = staying(rt, alloc, MARKS, Kind::Del)?;
     assert!(rt; rules.head().declares_pair(Kind::Del, Kind::Del));
-    let bump = Bump::new(alloc);
-    let mut asker = asker_of_guard(&bump, &rules)?;
-    Ok(asker.names() == 9 && is_guard_asked(&mut asker)?)
+    Ok(asks_a_guard(alloc, &rules)? && looks_at_a_pair(alloc, &rules)?)
 }
 
 #[test]
-fn a_goal_of_a_guard_asks_the_guard_alone(rt: HostRuntime) {
-    assert!(rt; asks_a_guard(&rt, rt.alloc()) == Ok(true));
-}
-
-// Whether what is at hand of the first question is what is asked.
-fn is_at_hand(asker: &mut PathAsker<'_>) -> Result<bool, NoMemory> {
-    let start = asker.start()?;
-    let Some((asked, _)) = asker.look(start) else {
-        return Ok(false);
-    };
-    match asker.turn(start)? {
-        Turn::Ask { lit, .. } => Ok(lit == asked),
-        _ => Ok(false),
-    }
-}
-
-fn looks_at_a_pair(rt: &impl Abort, alloc: Global) -> Result<bool, NoMemory> {
-    let rules = staying(rt, alloc, MARKS, Kind::Del)?;
-    assert!(rt; rules.head().declares_pair(Kind::Del, Kind::Del));
-    let bump = Bump::new(alloc);
-    let mut asker = PathAsker::new(&bump, &rules, ObName::Pair(Kind::Del, Kind::Del));
-    Ok(is_at_hand(&mut asker)?)
-}
-
-#[test]
-fn a_question_that_is_laid_out_is_at_hand(rt: HostRuntime) {
-    assert!(rt; looks_at_a_pair(&rt, rt.alloc()) == Ok(true));
+fn a_guard_and_a_pair_ask_their_first_questions(rt: HostRuntime) {
+    assert!(rt; are_asked(&rt, rt.alloc()) == Ok(true));
 }
 
 // Whether a comparison of the guard is of these places and laid out. That it is one question is a row of

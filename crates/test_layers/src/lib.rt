@@ -1,4 +1,5 @@
-//! Calls of all crates below the commands, beside rows that were found by hand: tests alone.
+//! Calls of all crates, beside rows that were found by hand, and whole commands over shelves and sinks in memory: tests
+//! alone. `samples` has the texts of files.
 //!
 //! `settled`, `least`, `reversals`, `hubs`, `steps` and `traces` call what decides a function, and a hub, once with
 //! memory enough: a body that answers nothing but want of memory would be proved too.
@@ -16,6 +17,8 @@ mod checks;
 mod cycles;
 #[cfg(test)]
 mod documents;
+#[cfg(test)]
+mod faults;
 #[cfg(test)]
 mod fixtures;
 #[cfg(test)]
@@ -43,15 +46,21 @@ mod printing;
 #[cfg(test)]
 mod proofs_with_lemmas;
 #[cfg(test)]
+mod questions;
+#[cfg(test)]
 mod reader;
 #[cfg(test)]
 mod reversals;
 #[cfg(test)]
 mod rules;
 #[cfg(test)]
+mod samples;
+#[cfg(test)]
 mod searches;
 #[cfg(test)]
 mod sessions;
+#[cfg(test)]
+mod setting;
 #[cfg(test)]
 mod settled;
 #[cfg(test)]
@@ -74,6 +83,8 @@ mod trees;
 mod two_names;
 #[cfg(test)]
 mod whole_functions;
+#[cfg(test)]
+mod words;
 #[cfg(test)]
 mod writer;
 #[cfg(test)]

@@ -1,10 +1,12 @@
 //! Where the transformations of a pair begin.
-ghost use Rattle.std.specs.Prelude.{IfOk, IfSome};
+ghost use Rattle.std.specs.Prelude.{IfOk, IfSome, IsTrue};
+ghost use Rattle.fn_rules.specs.Obligations.{is_obligation};
+ghost use Rattle.fn_rules.specs.Rules.{function_of};
 
 use crate::functions::asking;
 use ask_core::{NoMemory, Turn};
 use bumpalo::Bump;
-use fn_rules::ObName;
+use fn_rules::{ObName, Rules};
 use ot_model::Kind;
 use ot_starts::StartAsker;
 use proof_trees::Starter;
@@ -82,15 +84,25 @@ fn compares_as_told<A: Starter>(alloc: Global, asker: &mut A) -> Result<bool, No
     Ok(same == Some(0) && other.is_none())
 }
 
-fn starts_as_told(rt: &impl Abort, alloc: Global) -> Result<bool, NoMemory> {
+fn is_as_told<A: Starter>(alloc: Global, asker: &mut A) -> Result<bool, NoMemory> {
+    Ok(begins_as_told(asker)? && compares_as_told(alloc, asker)?)
+}
+
+fn starts_as_told(alloc: Global, rules: &Rules) -> Result<bool, NoMemory>
+    requires { IsTrue (is_obligation (function_of rules.now).head (ObName.Pair Kind.Del Kind.Del)) }
+{
+    let bump = Bump::new(alloc);
+    let mut asker = StartAsker::new(&bump, rules, ObName::Pair(Kind::Del, Kind::Del));
+    is_as_told(alloc, &mut asker)
+}
+
+fn begin_at_starts(rt: &impl Abort, alloc: Global) -> Result<bool, NoMemory> {
     let rules = asking(rt, alloc)?;
     assert!(rt; rules.head().declares_pair(Kind::Del, Kind::Del));
-    let bump = Bump::new(alloc);
-    let mut asker = StartAsker::new(&bump, &rules, ObName::Pair(Kind::Del, Kind::Del));
-    Ok(begins_as_told(&mut asker)? && compares_as_told(alloc, &mut asker)?)
+    starts_as_told(alloc, &rules)
 }
 
 #[test]
 fn both_transformations_of_a_pair_begin_at_starts(rt: HostRuntime) {
-    assert!(rt; starts_as_told(&rt, rt.alloc()) == Ok(true));
+    assert!(rt; begin_at_starts(&rt, rt.alloc()) == Ok(true));
 }

@@ -30,61 +30,85 @@ fn doc_of(alloc: Global, cells: &[Cell]) -> Result<Doc, AllocError> {
     Ok(doc)
 }
 
-fn lines_of(alloc: Global, rules: &Rules, doc: &Doc, ops: &[Op]) -> Result<Vec<u8>, AllocError> {
-    let mut out = Vec::new(alloc);
-    if are_integrable(rules, doc.len(), ops) {
-        if let Some(ways) = both_ways(alloc, rules, Level::Tp2, doc, ops)? {
-            write_ways(alloc, rules, &ways, &mut out)?;
-        }
+fn push_ways(
+    alloc: Global,
+    rules: &Rules,
+    doc: &Doc,
+    ops: &[Op],
+    out: &mut Vec<u8>,
+) -> Result<(), AllocError> {
+    if !are_integrable(rules, doc.len(), ops) {
+        return Ok(());
     }
-    write_case_line(alloc, Level::Tp2, doc, ops, &mut out)?;
-    Ok(out)
+    match both_ways(alloc, rules, Level::Tp2, doc, ops)? {
+        Some(ways) => write_ways(alloc, rules, &ways, out),
+        None => Ok(()),
+    }
 }
 
+fn is_told(alloc: Global, rules: &Rules, doc: &Doc, ops: &[Op]) -> Result<bool, AllocError> {
+    let mut out = Vec::new(alloc);
+    push_ways(alloc, rules, doc, ops, &mut out)?;
+    write_case_line(alloc, Level::Tp2, doc, ops, &mut out)?;
+    Ok(out.as_slice() == LINES.as_bytes())
+}
+
+const CELL: Cell = Cell {
+    ch: 'y',
+    live: true,
+};
+
 // Two insertions and a deletion on one cell.
+const OPS: [Op; 3] = [
+    Op::Ins {
+        at: 1,
+        ch: 'a',
+        site: 1,
+    },
+    Op::Del { at: 0, site: 2 },
+    Op::Ins {
+        at: 0,
+        ch: 'c',
+        site: 3,
+    },
+];
+
 fn is_explained(alloc: Global) -> Result<bool, AllocError> {
-    let Some(rules) = sites(alloc) else {
-        return Ok(false);
-    };
-    let doc = doc_of(
-        alloc,
-        &[Cell {
-            ch: 'y',
-            live: true,
-        }],
-    )?;
-    let ops = [
-        Op::Ins {
-            at: 1,
-            ch: 'a',
-            site: 1,
-        },
-        Op::Del { at: 0, site: 2 },
-        Op::Ins {
-            at: 0,
-            ch: 'c',
-            site: 3,
-        },
-    ];
-    Ok(lines_of(alloc, &rules, &doc, &ops)?.as_slice() == LINES.as_bytes())
+    let doc = doc_of(alloc, &[CELL])?;
+    match sites(alloc) {
+        Some(rules) => is_told(alloc, &rules, &doc, &OPS),
+        None => Ok(false),
+    }
 }
 
 fn is_case(trial: &Trial, doc: &Doc, ops: &[Op]) -> bool {
     trial.doc.same(doc) && trial.ops.as_slice() == ops && trial.orders.len() == 2
 }
 
+// Whether a line is read as the case of these operations on the document.
+fn is_line_of(alloc: Global, rules: &Rules, line: &[u8], doc: &Doc, ops: &[Op]) -> bool {
+    if line.len() < WORD.len() {
+        return false;
+    }
+    match trial_read(alloc, rules, &line[WORD.len()..]) {
+        Ok(trial) => is_case(&trial, doc, ops),
+        Err(_) => false,
+    }
+}
+
+fn is_written_so(alloc: Global, rules: &Rules, doc: &Doc, ops: &[Op]) -> Result<bool, AllocError> {
+    let mut line = Vec::new(alloc);
+    write_case_line(alloc, Level::Tp1, doc, ops, &mut line)?;
+    Ok(is_line_of(alloc, rules, &line, doc, ops))
+}
+
 // Whether the case of two insertions of these characters on cells that have them is read back.
 fn is_read_back(alloc: Global, rules: &Rules, ch: char, other: char) -> Result<bool, AllocError> {
-    let doc = doc_of(
-        alloc,
-        &[
-            Cell { ch, live: true },
-            Cell {
-                ch: other,
-                live: false,
-            },
-        ],
-    )?;
+    let live = Cell { ch, live: true };
+    let dead = Cell {
+        ch: other,
+        live: false,
+    };
     let ops = [
         Op::Ins { at: 0, ch, site: 1 },
         Op::Ins {
@@ -93,22 +117,12 @@ fn is_read_back(alloc: Global, rules: &Rules, ch: char, other: char) -> Result<b
             site: 2,
         },
     ];
-    let mut line = Vec::new(alloc);
-    write_case_line(alloc, Level::Tp1, &doc, &ops, &mut line)?;
-    if line.len() < WORD.len() {
-        return Ok(false);
-    }
-    match trial_read(alloc, rules, &line[WORD.len()..]) {
-        Ok(trial) => Ok(is_case(&trial, &doc, &ops)),
-        Err(_) => Ok(false),
-    }
+    let doc = doc_of(alloc, &[live, dead])?;
+    is_written_so(alloc, rules, &doc, &ops)
 }
 
 // Each kind of character that is escaped in JSON, in the text of a document, or in both.
-fn are_read_back(alloc: Global) -> Result<bool, AllocError> {
-    let Some(rules) = sites(alloc) else {
-        return Ok(false);
-    };
+fn are_read_back(alloc: Global, rules: &Rules) -> Result<bool, AllocError> {
     for (ch, other) in [
         ('"', '\\'),
         ('\n', '\r'),
@@ -117,11 +131,18 @@ fn are_read_back(alloc: Global) -> Result<bool, AllocError> {
         ('é', '𝄞'),
         ('a', '/'),
     ] {
-        if !is_read_back(alloc, &rules, ch, other)? {
+        if !is_read_back(alloc, rules, ch, other)? {
             return Ok(false);
         }
     }
     Ok(true)
+}
+
+fn sites_are_read_back(alloc: Global) -> Result<bool, AllocError> {
+    match sites(alloc) {
+        Some(rules) => are_read_back(alloc, &rules),
+        None => Ok(false),
+    }
 }
 
 #[test]
@@ -131,5 +152,5 @@ fn a_counterexample_is_explained_case_by_case(rt: HostRuntime) {
 
 #[test]
 fn a_case_is_read_back_whatever_its_characters(rt: HostRuntime) {
-    assert!(rt; are_read_back(rt.alloc()) == Ok(true));
+    assert!(rt; sites_are_read_back(rt.alloc()) == Ok(true));
 }

@@ -91,22 +91,25 @@ fn fault_lines(alloc: Global, rules: &Rules, out: &mut Vec<u8>) -> Result<(), No
     write_fault(alloc, path, at, &fault, out)
 }
 
+fn push_lines(alloc: Global, rules: &Rules, out: &mut Vec<u8>) -> Result<(), NoMemory> {
+    case_lines(alloc, rules, out)?;
+    hub_lines(alloc, rules, out)?;
+    session_lines(alloc, rules, out)?;
+    fault_lines(alloc, rules, out)
+}
+
 // Whether each call writes its lines.
 fn are_told(alloc: Global, rules: &Rules) -> Result<bool, NoMemory> {
-    let mut case = Vec::new(alloc);
-    let mut hub = Vec::new(alloc);
-    let mut session = Vec::new(alloc);
-    let mut fault = Vec::new(alloc);
-    case_lines(alloc, rules, &mut case)?;
-    hub_lines(alloc, rules, &mut hub)?;
-    session_lines(alloc, rules, &mut session)?;
-    fault_lines(alloc, rules, &mut fault)?;
-    Ok(
-        case.as_slice() == CASE_LINES.as_bytes()
-            && hub.as_slice() == HUB_LINES.as_bytes()
-            && session.as_slice() == SESSION_LINES.as_bytes()
-            && fault.as_slice() == FAULT_LINES.as_bytes(),
-    )
+    let mut out = Vec::new(alloc);
+    push_lines(alloc, rules, &mut out)?;
+    let mut at = out.as_slice();
+    for lines in [CASE_LINES, HUB_LINES, SESSION_LINES, FAULT_LINES] {
+        match at.strip_prefix(lines.as_bytes()) {
+            Some(rest) => at = rest,
+            None => return Ok(false),
+        }
+    }
+    Ok(at.is_empty())
 }
 
 // An event that names a site that is not there.

@@ -16,7 +16,8 @@ fn is_written(alloc: Global, most: usize) -> Result<bool, NoMemory> {
     let sought = search(alloc, &mut asker, 2)?;
     let mut bytes = Vec::new(alloc);
     let tree = write_tree(alloc, &mut asker, &sought.lemmas, 2, most, &mut bytes)?;
-    Ok(tree.ending == TreeEnd::Whole && sought.asked == 2 && bytes.as_slice() == TREE.as_bytes())
+    let is_whole = tree.ending == TreeEnd::Whole && sought.asked == 2;
+    Ok(is_whole && bytes.as_slice() == TREE.as_bytes())
 }
 
 #[test]
